@@ -1,0 +1,200 @@
+//! The kind `rounds`: round data alone, made or loaded and then used.
+
+use std::io;
+
+use rs_poker::arena::RoundData;
+
+use crate::carry;
+use crate::draw::Draw;
+use crate::line::Line;
+use crate::list::List;
+use crate::refusals::{BAD_RECORD, COUNTER_FULL};
+use crate::sound;
+use crate::table::{MAX_SEATS, Table, place};
+use crate::{amounts, hands};
+
+pub fn write(list: &mut List, draw: &mut Draw, count: u64) -> io::Result<()> {
+    for table in hands::walks() {
+        load(list, &table)?;
+        list.put(walk(&mut table.clone()))?;
+    }
+    for _ in 0..count {
+        sequence(list, draw)?;
+    }
+    Ok(())
+}
+
+fn sequence(list: &mut List, draw: &mut Draw) -> io::Result<()> {
+    let mut table = if draw.once_in(3) {
+        let table = loaded(draw);
+        load(list, &table)?;
+        table
+    } else {
+        let (line, made) = make(draw);
+        list.put(line)?;
+        match made {
+            Some(table) => table,
+            None => return Ok(()),
+        }
+    };
+    for _ in 0..draw.within(1, 12) {
+        list.put(match draw.below(20) {
+            0..=6 => walk(&mut table),
+            7..=15 => {
+                let amount = extra(draw, &table);
+                bet(&mut table, amount, draw.once_in(3))
+            }
+            _ => ask(&table),
+        })?;
+    }
+    Ok(())
+}
+
+/// `new` or `new_with_bets`, one in five with something that 01 refuses.
+fn make(draw: &mut Draw) -> (Line, Option<Table>) {
+    let mut length = length(draw);
+    let mut active = draw.seats(length);
+    let mut to_act = draw.below(length);
+    let min_raise = amounts::any(draw);
+    if draw.once_in(5) {
+        match draw.below(3) {
+            0 => length = draw.pick(&[0, 17, 18, 19, 20]),
+            1 => to_act = length + draw.below(4),
+            _ => active |= outside(draw, length),
+        }
+    }
+    let fits = (1..=MAX_SEATS).contains(&length);
+    let good = fits && to_act < length && sound::within(active, length);
+    let set = carry::set_of(active);
+    if draw.once_in(2) {
+        let line = Line::new('N').token(length).float(min_raise).token(active).token(to_act);
+        made(line, good.then(|| RoundData::new(length, min_raise, set, to_act)))
+    } else {
+        let bets: Vec<f32> = (0..length).map(|_| amounts::any(draw)).collect();
+        let line = Line::new('B').float(min_raise).token(active).token(to_act);
+        let line = line.token(length).floats(&bets);
+        made(line, good.then(|| RoundData::new_with_bets(min_raise, set, to_act, bets)))
+    }
+}
+
+fn made(line: Line, data: Option<RoundData>) -> (Line, Option<Table>) {
+    let Some(data) = data else {
+        return (line.refused(BAD_RECORD), None);
+    };
+    let mut table = Table::ZEROS;
+    carry::put_round_data(&mut table, &data);
+    (line.answer().new_table(&table), Some(table))
+}
+
+/// One bet alone is good too.
+fn length(draw: &mut Draw) -> usize {
+    if draw.once_in(12) { 1 } else { draw.players() }
+}
+
+/// A seat at or above the length; none is left above 16, so seat 15 then.
+fn outside(draw: &mut Draw, length: usize) -> u16 {
+    1 << draw.within(length.min(MAX_SEATS - 1), MAX_SEATS - 1)
+}
+
+fn load(list: &mut List, table: &Table) -> io::Result<()> {
+    list.put(Line::new('L').new_table(table))
+}
+
+/// Round data that no call makes. The seats active at its start are never looked
+/// at, so they may stand anywhere.
+fn loaded(draw: &mut Draw) -> Table {
+    let length = length(draw);
+    let mut table = Table::ZEROS;
+    table.set(place::ROUND_LENGTH, length);
+    table.set(place::TO_ACT_IDX, draw.below(length));
+    table.set(place::STARTING_PLAYER_ACTIVE, draw.seats(MAX_SEATS) as usize);
+    let owing = if draw.once_in(4) { 0 } else { draw.seats(length) };
+    table.set(place::NEEDS_ACTION, owing as usize);
+    for counter in place::TOTAL_BET_COUNT..=place::FORCED_BET_COUNT {
+        let count = if draw.once_in(2) { draw.within(251, 255) } else { draw.below(8) };
+        table.set(counter, count);
+    }
+    table.set_float(place::ROUND_BET, amounts::any(draw));
+    table.set_float(place::MIN_RAISE, amounts::any(draw));
+    for seat in 0..length {
+        table.set_float(place::ROUND_BETS + seat, amounts::any(draw));
+    }
+    if draw.once_in(4) {
+        spoil(draw, &mut table, length);
+    }
+    table
+}
+
+/// Makes round data unsound. With an owing seat outside and none inside, the
+/// Rust's walk would not end.
+fn spoil(draw: &mut Draw, table: &mut Table, length: usize) {
+    let outside = outside(draw, length) as usize;
+    match draw.below(4) {
+        0 => table.set(place::TO_ACT_IDX, length + draw.below(5)),
+        1 if length < MAX_SEATS => table.set(place::NEEDS_ACTION, outside),
+        2 if length < MAX_SEATS => {
+            table.set(place::NEEDS_ACTION, table.get(place::NEEDS_ACTION) | outside);
+        }
+        _ => table.set(place::ROUND_LENGTH, draw.pick(&[0, 0, 17, 18, 20, 255])),
+    }
+    table.clear_tails();
+}
+
+/// What a bet adds: up to the bet, a raise above it, or anything.
+fn extra(draw: &mut Draw, table: &Table) -> f32 {
+    let seat = table.get(place::TO_ACT_IDX).min(MAX_SEATS - 1);
+    let short = table.float(place::ROUND_BET) - table.float(place::ROUND_BETS + seat);
+    let extra = match draw.below(6) {
+        0 => short,
+        1 => amounts::beside(draw, short),
+        2 => short + table.float(place::MIN_RAISE),
+        3 => amounts::whole(draw, 50),
+        _ => amounts::any(draw),
+    };
+    amounts::one_nan(extra)
+}
+
+fn walk(table: &mut Table) -> Line {
+    let line = Line::new('w');
+    if !sound::round_data(table) {
+        return line.refused(BAD_RECORD);
+    }
+    let mut data = carry::round_data(table);
+    let (length, from) = (data.player_bet.len(), data.to_act_idx);
+    data.advance_action();
+    // The Rust does not count. The way back to the start is the whole round.
+    let moved = (data.to_act_idx + length - from - 1) % length + 1;
+    changed(line.answer().token(moved), table, &data)
+}
+
+fn bet(table: &mut Table, amount: f32, forced: bool) -> Line {
+    let line = Line::new('b').float(amount).flag(forced);
+    if !sound::round_data(table) {
+        return line.refused(BAD_RECORD);
+    }
+    let mut rehearsed = carry::round_data(table);
+    sound::clear_counters(&mut rehearsed);
+    rehearsed.do_bet(amount, forced);
+    if sound::counter_full(carry::round_data(table), rehearsed) {
+        return line.refused(COUNTER_FULL);
+    }
+    let mut data = carry::round_data(table);
+    data.do_bet(amount, forced);
+    changed(line.answer(), table, &data)
+}
+
+fn changed(line: Line, table: &mut Table, data: &RoundData) -> Line {
+    let before = table.clone();
+    carry::put_round_data(table, data);
+    line.changes(&before, table)
+}
+
+fn ask(table: &Table) -> Line {
+    let line = Line::new('q');
+    if !sound::round_data(table) {
+        return line.refused(BAD_RECORD);
+    }
+    let data = carry::round_data(table);
+    let line = line.answer().token(data.num_players_need_action());
+    line.flag(data.is_action_unopened()).float(data.current_player_bet())
+}
