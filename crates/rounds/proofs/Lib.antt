@@ -1,0 +1,5 @@
+pub mod Bet
+pub mod Cases
+pub mod Loop
+pub mod Sound
+pub mod Walk
