@@ -1,0 +1,49 @@
+-- `table::GameState::advance_round`: each return by its tests. Assumes nothing.
+use mathlib.Core.Path.{sym, ap, _∙_}
+use Rattle.table.specs.Rounds.{advanceOf}
+use borrow.Author.Needs.{needs}
+use Rattle.table.proofs.GameState.advance_round.Statement.{statement}
+use Rattle.table.proofs.GameState.advance_round.Tie as tie
+
+is-sound-requires : tie.Need-is-sound-requires
+is-sound-requires c κs = search needs
+
+is-round-requires : tie.Need-is-round-requires
+is-round-requires c κs = search needs
+
+returns : tie.Need-returns
+unfolding advanceOf
+returns c =
+    let at-is-round = c .before in
+    let at-if1 = at-is-round .before in
+    let at-is-sound = at-if1 .before in
+    simp (sym (at-is-sound .is-sound .ensures) ∙ at-if1 .if1 .taken, sym (at-is-round .is-round .ensures) ∙ c .if2 .taken)
+
+advance-normal-requires : tie.Need-advance-normal-requires
+advance-normal-requires c κs = search needs
+
+returns-2 : tie.Need-returns-2
+unfolding advanceOf
+returns-2 c =
+    let at-if2 = c .before in
+    let at-is-round = at-if2 .before in
+    let at-if1 = at-is-round .before in
+    let at-is-sound = at-if1 .before in
+    simp (sym (at-is-sound .is-sound .ensures) ∙ at-if1 .if1 .taken, sym (at-is-round .is-round .ensures) ∙ at-if2 .if2 .left, c .advance-normal .ensures)
+
+returns-3 : tie.Need-returns-3
+unfolding advanceOf
+returns-3 c =
+    let at-is-sound = c .before in
+    simp (sym (at-is-sound .is-sound .ensures) ∙ c .if1 .left)
+
+pub advance-round-spec : {M : Type 1} → statement M
+advance-round-spec =
+    tie.close
+    (tie.spec
+    is-sound-requires
+    is-round-requires
+    returns
+    advance-normal-requires
+    returns-2
+    returns-3)

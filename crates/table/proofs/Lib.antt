@@ -1,0 +1,8 @@
+pub mod Bet
+pub mod Building
+pub mod Hands
+pub mod LawsBack
+pub mod LawsOrder
+pub mod LawsPlaces
+pub mod LawsSound
+pub mod Sound

@@ -1,0 +1,58 @@
+-- The record made, and with some fields changed. `tableOf` alone lists the fields; `changed` has those that some step moves. Definitions only.
+use Prim.Native.Nat.{ℕ}
+use mathlib.Core.Bool.{Bool}
+use mathlib.Core.List.{List}
+use lib.Ieee.{Float}
+use Rattle.seats.specs.Set.{ofBits}
+use Rattle.rounds.specs.declared.Round.{Round}
+use Rattle.rounds.specs.declared.RoundData.{RoundData}
+use Rattle.table.specs.declared.GameState.{GameState}
+
+abbrev pub tableOf : ℕ → ℕ → ℕ → Float → List Float → List Float → List Float → List Float → Float → Float → Float → ℕ → Round → Round → RoundData → List ℕ → ℕ → Bool → Bool → Bool → ℕ → GameState
+tableOf n active allIn pot stacks starting bets winnings big small ante dealer now before d board len bb sb capped cap = record {
+  «num_players» = n;
+  «player_active» = ofBits active;
+  «player_all_in» = ofBits allIn;
+  «total_pot» = pot;
+  stacks = stacks;
+  «starting_stacks» = starting;
+  «player_bet» = bets;
+  «player_winnings» = winnings;
+  «big_blind» = big;
+  «small_blind» = small;
+  ante = ante;
+  «dealer_idx» = dealer;
+  round = now;
+  «round_before» = before;
+  «round_data» = d;
+  board = board;
+  «board_len» = len;
+  «bb_posted» = bb;
+  «sb_posted» = sb;
+  «has_max_raises» = capped;
+  «max_raises_per_round» = cap;
+}
+
+-- with the fields changed that some step moves
+abbrev pub changed : GameState → ℕ → ℕ → Float → List Float → List Float → List Float → Round → Round → RoundData → GameState
+changed t active allIn pot stacks bets winnings now before d =
+    tableOf (t .«num_players») active allIn pot stacks (t .«starting_stacks») bets winnings (t .«big_blind») (t .«small_blind») (t .ante) (t .«dealer_idx») now before d
+    (t .board) (t .«board_len») (t .«bb_posted») (t .«sb_posted») (t .«has_max_raises») (t .«max_raises_per_round»)
+
+-- what a payment moves
+abbrev pub withPayment : GameState → ℕ → ℕ → Float → List Float → List Float → RoundData → GameState
+withPayment t active allIn pot stacks bets d = changed t active allIn pot stacks bets (t .«player_winnings») (t .round) (t .«round_before») d
+
+-- what a fold moves
+abbrev pub withFold : GameState → ℕ → RoundData → GameState
+withFold t active d = withPayment t active (t .«player_all_in» .set) (t .«total_pot») (t .stacks) (t .«player_bet») d
+
+-- what an award moves, and a settlement
+abbrev pub withAward : GameState → List Float → List Float → GameState
+withAward t stacks winnings =
+    changed t (t .«player_active» .set) (t .«player_all_in» .set) (t .«total_pot») stacks (t .«player_bet») winnings (t .round) (t .«round_before») (t .«round_data»)
+
+-- what a new round moves
+abbrev pub withRound : GameState → Round → Round → RoundData → GameState
+withRound t now before d =
+    changed t (t .«player_active» .set) (t .«player_all_in» .set) (t .«total_pot») (t .stacks) (t .«player_bet») (t .«player_winnings») now before d

@@ -1,0 +1,492 @@
+// The second half of text 000: the record, by value, with its steps and queries; the builder and the choice stand in files of their own.
+pub mod builder;
+mod checks;
+mod parts;
+mod soundness;
+
+ghost use mathlib.Core.Path.{_≡_};
+ghost use Rattle.seats.specs.Bits.{countTo};
+ghost use Rattle.table.specs.Build.{noTable};
+ghost use Rattle.table.specs.Choice.{choiceOf, payingNothing};
+ghost use Rattle.table.specs.Pay.{betOf, foldOf, awardOf, rewardOf};
+ghost use Rattle.table.specs.Queries.{isCapped, isComplete, atSeat, roundBetAt};
+ghost use Rattle.table.specs.Rounds.{advanceOf, advancedStep, completeOf, completedStep, freshData, isRound};
+ghost use Rattle.table.specs.Sound.{soundOf};
+ghost use Rattle.table.specs.With.{withRound};
+use bets::BetSize;
+use refusals::AddedError;
+use refusals::Refusal;
+use rounds::AmountAnswer;
+use rounds::Round;
+use rounds::RoundData;
+use rounds::StepAnswer;
+use seats::PlayerBitSet;
+
+pub struct GameState {
+    pub num_players: usize,
+    pub player_active: PlayerBitSet,
+    pub player_all_in: PlayerBitSet,
+    pub total_pot: f32,
+    pub stacks: [f32; 16],
+    pub starting_stacks: [f32; 16],
+    pub player_bet: [f32; 16],
+    pub player_winnings: [f32; 16],
+    pub big_blind: f32,
+    pub small_blind: f32,
+    pub ante: f32,
+    pub dealer_idx: usize,
+    pub round: Round,
+    pub round_before: Round,
+    pub round_data: RoundData,
+    pub board: [u8; 5],
+    pub board_len: usize,
+    pub bb_posted: bool,
+    pub sb_posted: bool,
+    pub has_max_raises: bool,
+    pub max_raises_per_round: u8,
+}
+
+// What a bet answers: the payment and how many seats the walk passed to, or why it is refused.
+pub enum BetAnswer {
+    Paid(f32, usize),
+    NotPaid(Refusal),
+}
+
+pub struct BetStep {
+    pub answer: BetAnswer,
+    pub table: GameState,
+}
+
+pub struct TableStep {
+    pub answer: StepAnswer,
+    pub table: GameState,
+}
+
+// Text 002: a player's choice.
+pub enum AgentAction {
+    Fold,
+    Call,
+    Bet(f32),
+    AllIn,
+}
+
+fn is_round(r: Round, k: u8) -> bool
+    ensures { λ b. ⌜ b ≡ isRound r k ⌝ }
+{
+    r.number() == k
+}
+
+// What stands at a seat of a list of so many, 0.0 outside it.
+fn at_seat(len: usize, list: [f32; 16], i: usize) -> f32
+    ensures { λ r. ⌜ r ≡ atSeat len list i ⌝ }
+{
+    if i < len {
+        if i < 16 {
+            return list[i];
+        }
+    }
+    0.0
+}
+
+// A fold as a bet's answer: nothing is paid.
+fn paying_nothing(a: StepAnswer) -> BetAnswer
+    ensures { λ r. ⌜ r ≡ payingNothing a ⌝ }
+{
+    match a {
+        StepAnswer::Done(passed) => BetAnswer::Paid(0.0, passed),
+        StepAnswer::Refused(r) => BetAnswer::NotPaid(r),
+    }
+}
+
+impl GameState {
+    // What a refused build gives: zeros.
+    pub fn none() -> GameState
+        ensures { λ r. ⌜ r ≡ noTable ⌝ }
+    {
+        GameState {
+            num_players: 0,
+            player_active: PlayerBitSet { set: 0 },
+            player_all_in: PlayerBitSet { set: 0 },
+            total_pot: 0.0,
+            stacks: [0.0; 16],
+            starting_stacks: [0.0; 16],
+            player_bet: [0.0; 16],
+            player_winnings: [0.0; 16],
+            big_blind: 0.0,
+            small_blind: 0.0,
+            ante: 0.0,
+            dealer_idx: 0,
+            round: Round::Starting,
+            round_before: Round::Starting,
+            round_data: RoundData::none(),
+            board: [0; 5],
+            board_len: 0,
+            bb_posted: false,
+            sb_posted: false,
+            has_max_raises: false,
+            max_raises_per_round: 0,
+        }
+    }
+
+    // Document 01's soundness.
+    pub fn is_sound(self) -> bool
+        ensures { λ r. ⌜ r ≡ soundOf self ⌝ }
+    {
+        let board = self.board;
+        soundness::is_sound(
+            self.num_players,
+            self.round_data.player_bet_len,
+            self.dealer_idx,
+            self.round_data.to_act_idx,
+            self.player_active.set,
+            self.player_all_in.set,
+            self.round_data.needs_action.set,
+            self.round_data.starting_player_active.set,
+            self.board_len,
+            board,
+        )
+    }
+
+    // The seat to act bets the amount. One exit, and the record in one place: a by-value step costs what is copied.
+    pub fn do_bet(mut self, amount: f32, is_forced: bool) -> BetStep
+        ensures { λ r. ⌜ r ≡ betOf self amount «is_forced» ⌝ }
+    {
+        let i = self.round_data.to_act_idx;
+        let n = self.round_data.player_bet_len;
+        let active = self.player_active.set;
+        let all_in = self.player_all_in.set;
+        let owing = self.round_data.needs_action.set;
+        let start = self.round_data.starting_player_active.set;
+        let board = self.board;
+        let mut answer = BetAnswer::NotPaid(Refusal::Added(AddedError::BadRecord));
+        if soundness::is_sound(
+            self.num_players,
+            n,
+            self.dealer_idx,
+            i,
+            active,
+            all_in,
+            owing,
+            start,
+            self.board_len,
+            board,
+        ) {
+            let mut d = self.round_data;
+            let old = d.bet;
+            let p = d.player_bet[i];
+            let k = self.stacks[i];
+            let total = d.total_bet_count;
+            let raise = d.total_raise_count;
+            let force = d.forced_bet_count;
+            let size = bets::validate(is_forced, amount, p, k, old, d.min_raise);
+            match parts::if_room(size, total, raise, force, is_forced, old, p) {
+                BetSize::Refused(r) => {
+                    answer = BetAnswer::NotPaid(r);
+                }
+                BetSize::Pays(x) => {
+                    let y = p + x;
+                    let left = k - x;
+                    let out = floats::is_near_zero(left);
+                    let b = floats::max(old, y);
+                    let least = floats::max(d.min_raise, b - old);
+                    let owed = parts::owing_after(old < b, is_forced, out, owing, active, i);
+                    let w = rounds::walking::walk(owed, n, i);
+                    let up = rounds::paying::is_raise(is_forced, old, y);
+                    d.min_raise = least;
+                    d.bet = b;
+                    d.player_bet[i] = y;
+                    d.total_bet_count = rounds::paying::up_if(true, total);
+                    d.total_raise_count = rounds::paying::up_if(up, raise);
+                    d.forced_bet_count = rounds::paying::up_if(is_forced, force);
+                    d.needs_action.set = owed;
+                    d.to_act_idx = w.seat;
+                    self.round_data = d;
+                    self.player_active.set = seats::bits::without_if(out, active, i);
+                    self.player_all_in.set = seats::bits::with_if(out, all_in, i);
+                    self.total_pot = self.total_pot + x;
+                    self.stacks[i] = left;
+                    self.player_bet[i] = self.player_bet[i] + x;
+                    answer = BetAnswer::Paid(x, w.passed);
+                }
+            }
+        }
+        BetStep {
+            answer,
+            table: self,
+        }
+    }
+
+    // The seat to act leaves the hand.
+    pub fn fold(mut self) -> TableStep
+        ensures { λ r. ⌜ r ≡ foldOf self ⌝ }
+    {
+        let mut answer = StepAnswer::Refused(Refusal::Added(AddedError::BadRecord));
+        if self.is_sound() {
+            let i = self.round_data.to_act_idx;
+            let owed = seats::bits::without(self.round_data.needs_action.set, i);
+            let w = rounds::walking::walk(owed, self.round_data.player_bet_len, i);
+            let active = seats::bits::without(self.player_active.set, i);
+            self.player_active.set = active;
+            self.round_data.needs_action.set = owed;
+            self.round_data.to_act_idx = w.seat;
+            answer = StepAnswer::Done(w.passed);
+        }
+        TableStep {
+            answer,
+            table: self,
+        }
+    }
+
+    // The choice of the seat to act.
+    pub fn choose(self, action: AgentAction) -> BetStep
+        ensures { λ r. ⌜ r ≡ choiceOf self action ⌝ }
+    {
+        match action {
+            AgentAction::Call => self.do_bet(self.round_data.bet, false),
+            AgentAction::Bet(amount) => self.do_bet(amount, false),
+            AgentAction::AllIn => self.do_bet(floats::infinity(), false),
+            AgentAction::Fold => {
+                let s = self.fold();
+                let t = s.table;
+                let a = s.answer;
+                BetStep {
+                    answer: paying_nothing(a),
+                    table: t,
+                }
+            }
+        }
+    }
+
+    // Added to stack and winnings; the pot stays.
+    pub fn award(mut self, player_idx: usize, amount: f32) -> TableStep
+        ensures { λ r. ⌜ r ≡ awardOf self «player_idx» amount ⌝ }
+    {
+        let mut answer = StepAnswer::Refused(Refusal::Added(AddedError::BadRecord));
+        if self.is_sound() {
+            answer = StepAnswer::Refused(Refusal::Added(AddedError::BadSeat));
+            if player_idx < self.num_players {
+                self.stacks[player_idx] = self.stacks[player_idx] + amount;
+                self.player_winnings[player_idx] = self.player_winnings[player_idx] + amount;
+                answer = StepAnswer::Done(0);
+            }
+        }
+        TableStep {
+            answer,
+            table: self,
+        }
+    }
+
+    pub fn player_reward(self, player_idx: usize) -> AmountAnswer
+        ensures { λ r. ⌜ r ≡ rewardOf self «player_idx» ⌝ }
+    {
+        if self.is_sound() {
+            if player_idx < self.num_players {
+                return AmountAnswer::Is(self.stacks[player_idx] - self.starting_stacks[player_idx]);
+            }
+            return AmountAnswer::Unknown(Refusal::Added(AddedError::BadSeat));
+        }
+        AmountAnswer::Unknown(Refusal::Added(AddedError::BadRecord))
+    }
+
+    // The record in another round. An enum in a field is not stored to, so the record is made anew.
+    fn with_round(self, round: Round, round_before: Round, round_data: RoundData) -> GameState
+        ensures { λ r. ⌜ r ≡ withRound self round «round_before» «round_data» ⌝ }
+    {
+        let stacks = self.stacks;
+        let starting_stacks = self.starting_stacks;
+        let player_bet = self.player_bet;
+        let player_winnings = self.player_winnings;
+        let board = self.board;
+        GameState {
+            num_players: self.num_players,
+            player_active: PlayerBitSet {
+                set: self.player_active.set,
+            },
+            player_all_in: PlayerBitSet {
+                set: self.player_all_in.set,
+            },
+            total_pot: self.total_pot,
+            stacks,
+            starting_stacks,
+            player_bet,
+            player_winnings,
+            big_blind: self.big_blind,
+            small_blind: self.small_blind,
+            ante: self.ante,
+            dealer_idx: self.dealer_idx,
+            round,
+            round_before,
+            round_data,
+            board,
+            board_len: self.board_len,
+            bb_posted: self.bb_posted,
+            sb_posted: self.sb_posted,
+            has_max_raises: self.has_max_raises,
+            max_raises_per_round: self.max_raises_per_round,
+        }
+    }
+
+    // New round data: the places from n on keep what stood there.
+    fn fresh_data(self, active: u16, to_act: usize) -> RoundData
+        ensures { λ r. ⌜ r ≡ freshData self active «to_act» ⌝ }
+    {
+        let d = self.round_data;
+        let old = d.player_bet;
+        let bets = amounts::cleared(old, self.num_players);
+        RoundData {
+            starting_player_active: PlayerBitSet { set: active },
+            needs_action: PlayerBitSet { set: active },
+            min_raise: self.big_blind,
+            bet: 0.0,
+            player_bet: bets,
+            player_bet_len: self.num_players,
+            total_bet_count: 0,
+            total_raise_count: 0,
+            forced_bet_count: 0,
+            to_act_idx: to_act,
+        }
+    }
+
+    fn advance_normal(self) -> TableStep
+        ensures { λ r. ⌜ r ≡ advancedStep self ⌝ }
+    {
+        let before = self.round;
+        let now = before.advance();
+        let n = self.num_players;
+        let active = self.player_active.set;
+        let twice = is_round(now, 3) & (n == 2);
+        let w = parts::first_turn(twice, active, n, self.dealer_idx);
+        let data = self.fresh_data(active, w.seat);
+        TableStep {
+            answer: StepAnswer::Done(w.passed),
+            table: self.with_round(now, before, data),
+        }
+    }
+
+    pub fn advance_round(self) -> TableStep
+        ensures { λ r. ⌜ r ≡ advanceOf self ⌝ }
+    {
+        if self.is_sound() {
+            let round = self.round;
+            if is_round(round, 11) {
+                return TableStep {
+                    answer: StepAnswer::Done(0),
+                    table: self,
+                };
+            }
+            return self.advance_normal();
+        }
+        TableStep {
+            answer: StepAnswer::Refused(Refusal::Added(AddedError::BadRecord)),
+            table: self,
+        }
+    }
+
+    fn completed(self) -> TableStep
+        ensures { λ r. ⌜ r ≡ completedStep self ⌝ }
+    {
+        let before = self.round;
+        let data = self.fresh_data(0, self.dealer_idx);
+        TableStep {
+            answer: StepAnswer::Done(0),
+            table: self.with_round(Round::Complete, before, data),
+        }
+    }
+
+    pub fn complete(self) -> TableStep
+        ensures { λ r. ⌜ r ≡ completeOf self ⌝ }
+    {
+        if self.is_sound() {
+            let round = self.round;
+            if is_round(round, 11) {
+                return TableStep {
+                    answer: StepAnswer::Done(0),
+                    table: self,
+                };
+            }
+            return self.completed();
+        }
+        TableStep {
+            answer: StepAnswer::Refused(Refusal::Added(AddedError::BadRecord)),
+            table: self,
+        }
+    }
+
+    // The queries: none refuses.
+    pub fn is_raise_capped(self) -> bool
+        ensures { λ r. ⌜ r ≡ isCapped self ⌝ }
+    {
+        self.has_max_raises & (self.max_raises_per_round <= self.round_data.total_raise_count)
+    }
+
+    pub fn num_active_players(self) -> usize
+        ensures { λ r. ⌜ r ≡ countTo 16 (self .«player_active» .set) ⌝ }
+    {
+        seats::bits::count(self.player_active.set)
+    }
+
+    pub fn num_all_in_players(self) -> usize
+        ensures { λ r. ⌜ r ≡ countTo 16 (self .«player_all_in» .set) ⌝ }
+    {
+        seats::bits::count(self.player_all_in.set)
+    }
+
+    pub fn is_complete(self) -> bool
+        ensures { λ r. ⌜ r ≡ isComplete self ⌝ }
+    {
+        let round = self.round;
+        (seats::bits::count(self.player_active.set) == 1) | is_round(round, 11)
+    }
+
+    pub fn to_act_idx(self) -> usize
+        ensures { λ r. ⌜ r ≡ self .«round_data» .«to_act_idx» ⌝ }
+    {
+        self.round_data.to_act_idx
+    }
+
+    pub fn current_player_stack(self) -> f32
+        ensures { λ r. ⌜ r ≡ atSeat (self .«num_players») (self .stacks) (self .«round_data» .«to_act_idx») ⌝ }
+    {
+        let stacks = self.stacks;
+        at_seat(self.num_players, stacks, self.round_data.to_act_idx)
+    }
+
+    pub fn current_player_starting_stack(self) -> f32
+        ensures { λ r. ⌜ r ≡ atSeat (self .«num_players») (self .«starting_stacks») (self .«round_data» .«to_act_idx») ⌝ }
+    {
+        let stacks = self.starting_stacks;
+        at_seat(self.num_players, stacks, self.round_data.to_act_idx)
+    }
+
+    pub fn current_round_current_player_bet(self) -> f32
+        ensures { λ r. ⌜ r ≡ roundBetAt self (self .«round_data» .«to_act_idx») ⌝ }
+    {
+        self.current_round_player_bet(self.round_data.to_act_idx)
+    }
+
+    pub fn current_round_bet(self) -> f32
+        ensures { λ r. ⌜ r ≡ self .«round_data» .bet ⌝ }
+    {
+        self.round_data.bet
+    }
+
+    pub fn current_round_player_bet(self, idx: usize) -> f32
+        ensures { λ r. ⌜ r ≡ roundBetAt self idx ⌝ }
+    {
+        let d = self.round_data;
+        let list = d.player_bet;
+        at_seat(d.player_bet_len, list, idx)
+    }
+
+    pub fn current_round_num_active_players(self) -> usize
+        ensures { λ r. ⌜ r ≡ countTo 16 (self .«round_data» .«needs_action» .set) ⌝ }
+    {
+        seats::bits::count(self.round_data.needs_action.set)
+    }
+
+    pub fn current_round_min_raise(self) -> f32
+        ensures { λ r. ⌜ r ≡ self .«round_data» .«min_raise» ⌝ }
+    {
+        self.round_data.min_raise
+    }
+}
