@@ -1,0 +1,14 @@
+pub mod Compare
+pub mod Value
+pub mod Round
+pub mod Add
+pub mod Helpers
+pub mod Tolerance
+pub mod Amounts
+pub mod Bet
+pub mod Rule
+pub mod Paid
+pub mod Whole
+pub mod Sums
+pub mod Lists
+pub mod Examples
