@@ -1,0 +1,12 @@
+pub mod Bools
+pub mod Folds
+pub mod Holding
+pub mod Levels
+pub mod Payable
+pub mod Paying
+pub mod Promises
+pub mod Seats
+pub mod Sharing
+pub mod Whole
+pub mod Winning
+pub mod Worked

@@ -1,0 +1,82 @@
+-- `layers::layer::best_rank`: each turn takes one seat more into the best rank of those who reached u. Assumes nothing.
+use Prim.Native.Nat.{_≤_, _-_}
+use mathlib.Core.Path.{_≡_, refl, sym, _∙_}
+use native.Mathlib.Omega.{arith}
+use borrow.Author.Needs.{needs}
+use Rattle.layers.specs.Folds.{mostTo}
+use Rattle.layers.specs.Settlement.{rank, reached, best}
+use Rattle.layers.proofs.Folds.{most-next}
+use Rattle.layers.proofs.Levels.{contends-is}
+use Rattle.layers.proofs.layer.best_rank.Statement.{statement}
+use Rattle.layers.proofs.layer.best_rank.Tie as tie
+
+abbrev Inv-loop : tie.InvT-loop
+Inv-loop u h n most₀ i₀ most i = (i ≤ n) × (most ≡ mostTo i (reached h u) (rank h))
+
+abbrev μ-loop : tie.MeasureT-loop
+μ-loop u h n most₀ i₀ most i = n - i
+
+loop-holds : tie.Need-loop-holds Inv-loop μ-loop
+unfolding mostTo
+loop-holds c = (omega arith, refl)
+
+mul-b : tie.Need-mul-b Inv-loop μ-loop
+mul-b c = omega arith
+
+element-copy-out-b : tie.Need-element-copy-out-b Inv-loop μ-loop
+element-copy-out-b c = omega arith
+
+mul-k : tie.Need-mul-k Inv-loop μ-loop
+mul-k c = omega arith
+
+element-copy-out-k : tie.Need-element-copy-out-k Inv-loop μ-loop
+element-copy-out-k c = omega arith
+
+cast-k : tie.Need-cast-k Inv-loop μ-loop
+cast-k c = search needs
+
+has-requires : tie.Need-has-requires Inv-loop μ-loop
+has-requires c κs = search needs
+
+larger-if-requires : tie.Need-larger-if-requires Inv-loop μ-loop
+larger-if-requires c κs = search needs
+
+add-i : tie.Need-add-i Inv-loop μ-loop
+add-i c = omega arith
+
+loop-less : tie.Need-loop-less Inv-loop μ-loop
+loop-less c = omega arith
+
+loop-again : tie.Need-loop-again Inv-loop μ-loop
+unfolding reached
+loop-again c =
+    let at-has = c .before in
+    let at-test = at-has .before .before .before in
+    let h = at-test .before .before .args .t1 in
+    let one = at-has .has .ensures ∙ sym (contends-is h (at-test .before .loop .i) (at-test .loop-test .taken)) in
+    (omega arith, c .larger-if .ensures ∙ most-next _ _ _ _ _ (at-test .before .loop .inv .1) (rw one))
+
+returns : tie.Need-returns Inv-loop μ-loop
+unfolding best
+returns c =
+    let e : c .before .loop .i ≡ c .before .before .args .t1 .n = omega arith in
+    rw e at (c .before .loop .inv .1)
+
+pub best-rank-spec : {M : Type 1} → statement M
+best-rank-spec =
+    tie.close
+    (tie.spec
+    Inv-loop
+    μ-loop
+    loop-holds
+    mul-b
+    element-copy-out-b
+    mul-k
+    element-copy-out-k
+    cast-k
+    has-requires
+    larger-if-requires
+    add-i
+    loop-less
+    loop-again
+    returns)

@@ -1,0 +1,3 @@
+pub mod Folds
+pub mod Sharing
+pub mod Settlement

@@ -1,0 +1,4 @@
+pub mod GoodOrder
+pub mod Run
+pub mod Seatwise
+pub mod Step

@@ -1,0 +1,37 @@
+// The tests of good order that go seat by seat.
+ghost use Prim.Native.Nat.{_≤_};
+ghost use Rattle.order.specs.Seatwise.{Seatwise};
+
+pub struct Seats {
+    pub covered: bool,
+    pub holding: bool,
+    pub playing: bool,
+}
+
+// Over the seats below n: no round bet above its hand bet, a chip at each active seat, each owing seat active.
+pub fn tested(
+    n: usize,
+    round: [f32; 16],
+    hand: [f32; 16],
+    stacks: [f32; 16],
+    active: u16,
+    owing: u16,
+) -> Seats
+    requires { ⌜ n ≤ 16 ⌝ }
+    ensures { λ r. ⌜ Seatwise n round hand stacks active owing (r .covered) (r .holding) (r .playing) ⌝ }
+{
+    let mut covered = true;
+    let mut holding = true;
+    let mut playing = true;
+    for i in 0..n {
+        let plays = seats::bits::has(active, i);
+        covered = covered & (chips::chips_in(round[i]) <= chips::chips_in(hand[i]));
+        holding = holding & (!plays | (1 <= chips::chips_in(stacks[i])));
+        playing = playing & (!seats::bits::has(owing, i) | plays);
+    }
+    Seats {
+        covered,
+        holding,
+        playing,
+    }
+}

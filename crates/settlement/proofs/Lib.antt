@@ -1,0 +1,9 @@
+pub mod Accepted
+pub mod Again
+pub mod Nets
+pub mod Promises
+pub mod Raised
+pub mod Signed
+pub mod Unpaid
+pub mod Whole
+pub mod Worked

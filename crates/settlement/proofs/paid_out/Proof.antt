@@ -1,0 +1,22 @@
+-- `settlement::paid_out`: stacks, winnings and rewards are what its callees ensure. Assumes nothing.
+use borrow.Author.Needs.{needs}
+use Rattle.settlement.proofs.paid_out.Statement.{statement}
+use Rattle.settlement.proofs.paid_out.Tie as tie
+
+with-awards-requires : tie.Need-with-awards-requires
+with-awards-requires c κs = search needs
+
+with-awards-requires-2 : tie.Need-with-awards-requires-2
+with-awards-requires-2 c κs = search needs
+
+rewards-requires : tie.Need-rewards-requires
+rewards-requires c κs = search needs
+
+returns : tie.Need-returns
+returns c =
+    let at-won = c .before in
+    rw (c .rewards .ensures, at-won .before .with-awards .ensures, at-won .with-awards2 .ensures)
+
+pub paid-out-spec : {M : Type 1} → statement M
+paid-out-spec =
+    tie.close (tie.spec with-awards-requires with-awards-requires-2 rewards-requires returns)

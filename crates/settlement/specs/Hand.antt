@@ -1,0 +1,30 @@
+-- Document 01, "Settlement": the hand of a record in whole chips, as its layers are made. Definitions only.
+use Prim.Native.Nat.{ℕ}
+use mathlib.Core.List.{List}
+use lib.ListN.{getD}
+use lib.Ieee.{Float, nan}
+use Rattle.amounts.specs.Filled.{filled}
+use Rattle.table.specs.declared.GameState.{GameState}
+use Rattle.chips.specs.Whole.{chipsIn}
+use Rattle.layers.specs.declared.Hand.{Hand}
+use Rattle.layers.specs.Settlement.{nothing}
+
+abbrev pub chipsAt : List Float → ℕ → ℕ
+chipsAt l i = chipsIn (getD l i nan)
+
+unfoldable pub countedOf : List Float → List ℕ
+countedOf l = filled 16 nothing (chipsAt l)
+
+-- "odd chips go one each to winners from seat 0 upward"
+unfoldable pub firstOf : GameState → ℕ
+firstOf t = 0
+
+abbrev pub handOf : GameState → List ℕ → Hand
+handOf t ranks = record {
+  n = t .«num_players»;
+  active = t .«player_active» .set;
+  «all_in» = t .«player_all_in» .set;
+  first = firstOf t;
+  bets = countedOf (t .«player_bet»);
+  ranks = ranks;
+}

@@ -1,0 +1,94 @@
+// Settlement, which the Rust lacks: the pot of a record goes to its contenders, layer by layer, and each seat's reward is told.
+ghost use mathlib.Core.Path.{_≡_};
+ghost use Prim.Native.Nat.{_≤_};
+ghost use Rattle.settlement.specs.Hand.{handOf};
+ghost use Rattle.settlement.specs.Settlement.{verdictOf, paidOut, settledOf};
+use layers::Hand;
+use refusals::AddedError;
+use refusals::Refusal;
+use table::GameState;
+
+mod checks;
+mod paying;
+
+pub enum SettleAnswer {
+    Paid,
+    NotPaid(Refusal),
+}
+
+pub struct Settled {
+    pub answer: SettleAnswer,
+    pub table: GameState,
+    pub rewards: [i32; 16],
+}
+
+// The hand in whole chips. Odd chips go from seat 0 upward.
+fn hand_of(table: GameState, ranks: [u16; 16]) -> Hand
+    ensures { λ r. ⌜ r ≡ handOf table ranks ⌝ }
+{
+    let bets = table.player_bet;
+    let chips = paying::counted(bets);
+    Hand {
+        n: table.num_players,
+        active: table.player_active.set,
+        all_in: table.player_all_in.set,
+        first: 0,
+        bets: chips,
+        ranks,
+    }
+}
+
+// The refusals, the last one first: each stands before those made above it.
+fn verdict(table: GameState, someone: bool) -> SettleAnswer
+    ensures { λ r. ⌜ r ≡ verdictOf table someone ⌝ }
+{
+    let n = table.num_players;
+    let stacks = table.stacks;
+    let bets = table.player_bet;
+    let starting = table.starting_stacks;
+    let winnings = table.player_winnings;
+    let whole = checks::in_chips(n, stacks, bets, starting, table.total_pot);
+    let paid = checks::any_won(winnings, n);
+    let v22 = checks::give_if(!someone, AddedError::NobodyLeft, SettleAnswer::Paid);
+    let v23 = checks::give_if(!whole, AddedError::NotWholeChips, v22);
+    let v24 = checks::give_if(paid, AddedError::AlreadyPaid, v23);
+    checks::give_if(!table.is_sound(), AddedError::BadRecord, v24)
+}
+
+// Each award goes to stack and winnings, and the rewards are told of the stacks with them.
+fn paid_out(table: GameState, awards: [u32; 16]) -> Settled
+    requires { ⌜ table .«num_players» ≤ 16 ⌝ }
+    ensures { λ r. ⌜ r ≡ paidOut table awards ⌝ }
+{
+    let n = table.num_players;
+    let stacks = table.stacks;
+    let starting = table.starting_stacks;
+    let winnings = table.player_winnings;
+    let more = paying::with_awards(stacks, awards, n);
+    let won = paying::with_awards(winnings, awards, n);
+    let rewards = paying::rewards(more, starting, n);
+    let mut t = table;
+    t.stacks = more;
+    t.player_winnings = won;
+    Settled {
+        answer: SettleAnswer::Paid,
+        table: t,
+        rewards,
+    }
+}
+
+// The pot is awarded by the seats' ranks, the higher the better.
+pub fn settle(table: GameState, ranks: [u16; 16]) -> Settled
+    ensures { λ r. ⌜ r ≡ settledOf table ranks ⌝ }
+{
+    let h = hand_of(table, ranks);
+    // where 22 is looked at, a hand is payable exactly if somebody contends
+    match verdict(table, layers::is_payable(h)) {
+        SettleAnswer::Paid => paid_out(table, layers::awards(h)),
+        SettleAnswer::NotPaid(r) => Settled {
+            answer: SettleAnswer::NotPaid(r),
+            table,
+            rewards: [0; 16],
+        },
+    }
+}
