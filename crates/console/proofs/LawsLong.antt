@@ -1,0 +1,62 @@
+-- Laws of a script that is too long: a part is its one line or nothing, and a line laid at the front of a buffer is a part.
+-- Assumes nothing.
+use mathlib.Core.Path.{_≡_, refl, ap, _∙_}
+use mathlib.Core.Bool.{Bool, true, false, _||_}
+use mathlib.Core.List.{List, []}
+use Prim.Native.Nat.{ℕ, _+_, _≤_, _<_}
+use native.Mathlib.Omega.{arith}
+use borrow.Author.Tests.{le-leb, lt-leb, leb-false, ltb-false}
+use lib.Dec.{leb, ltb}
+use lib.ListN.{length, take}
+use lib.Seq.{paste}
+use Rattle.script.specs.declared.print.Text.{Text}
+use Rattle.script.specs.Text.{textOf}
+use Rattle.script.proofs.LawsPrint.{text-bytes}
+use Rattle.console.specs.declared.play.Console.{Console}
+use Rattle.console.specs.Play.{tooLongLine}
+use Rattle.console.specs.Parts.{Part, partIs, partFrom, refusedPart, scriptPart, playedOf, over}
+
+-- what is left to say, and room for it
+pub is-left : (n at room : ℕ) → (leb n at || ltb room 72) ≡ false → (at < n) × (72 ≤ room)
+is-left n at room e = go (leb n at) (ltb room 72) refl refl e
+  where
+    go : (t u : Bool) → leb n at ≡ t → ltb room 72 ≡ u → (t || u) ≡ false → (at < n) × (72 ≤ room)
+    go false false p q e = (leb-false _ _ p, ltb-false _ _ q)
+    go false true p q e = absurd (let z : _≡_ {A = ℕ} 0 1 = cc in omega arith)
+    go true u p q e = absurd (let z : _≡_ {A = ℕ} 0 1 = cc in omega arith)
+
+module _ (n at : ℕ) (c : Console) (room : ℕ) where
+  pub says-nothing : (leb n at || ltb room 72) ≡ true → refusedPart n at c room ≡ partIs [] at c
+  unfolding refusedPart
+  says-nothing e = simp e
+
+  pub says-one : (leb n at || ltb room 72) ≡ false → refusedPart n at c room ≡ partIs tooLongLine n c
+  unfolding refusedPart
+  says-one e = simp e
+
+-- a buffer as a part leaves it
+module _ {p : Part} {at : ℕ} {c : Console} (d : List ℕ) where
+  pub kept-so : p ≡ partIs [] at c → (record { at = at; console = c; len = 0 } ≡ playedOf p) × (d ≡ over (p .bytes) d)
+  kept-so e = (rw e refl, rw e refl)
+
+  pub laid-so : {l : List ℕ} {t : Text} {d′ : List ℕ} → p ≡ partIs l at c → t ≡ textOf l → d′ ≡ paste d 0 (t .bytes) (t .len)
+      → (record { at = at; console = c; len = t .len } ≡ playedOf p) × (d′ ≡ over (p .bytes) d)
+  unfolding textOf
+  laid-so {l} {t} e is lay =
+      let a : t .len ≡ length l = ap (λ (x : Text). x .len) is in
+      let b : take (length l) (t .bytes) ≡ l = ap (λ (x : Text). take (length l) (x .bytes)) is ∙ text-bytes l in
+      let z : 0 + length l ≡ length l = omega arith in
+      (rw (e, a) refl, rw (lay, e, a, b, z) refl)
+
+pub text-fits : (l : List ℕ) {t : Text} → t ≡ textOf l → length l ≤ 72 → t .len ≤ 72
+unfolding textOf
+text-fits l is h = rw is h
+
+module _ (s : List ℕ) (at : ℕ) (c : Console) (room : ℕ) where
+  pub part-short : length s ≤ 65536 → scriptPart s at c room ≡ partFrom s at c room
+  unfolding scriptPart
+  part-short h = simp (le-leb (length s) 65536 h)
+
+  pub part-long : 65536 < length s → scriptPart s at c room ≡ refusedPart (length s) at c room
+  unfolding scriptPart
+  part-long h = simp (lt-leb (length s) 65536 h)

@@ -1,0 +1,9 @@
+pub mod Laying
+pub mod LawsOpening
+pub mod LawsShown
+pub mod LawsAct
+pub mod LawsParts
+pub mod LawsLong
+pub mod LawsWhole
+pub mod Sample
+pub mod Examples

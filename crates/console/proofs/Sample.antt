@@ -1,0 +1,62 @@
+-- Document 01's worked script and its whole output: by computing. Assumes nothing.
+use mathlib.Core.Path.{_≡_, refl}
+use mathlib.Core.List.{List, [], _∷_, _++_}
+use Prim.Native.Nat.{ℕ}
+use Prim.Native.String.{String}
+use lib.Ieee.{toUnsigned, ofInt, eq, ne, lt, le, add, sub, mul, div, isNan, round, units, odd, size, climb, span}
+use Rattle.floats.specs.Helpers.{maxOf, minOf, signOf, absOf, tolOf, nearZero}
+use Rattle.amounts.specs.Filled.{filled}
+use Rattle.amounts.specs.Amounts.{sumOf, aboveOf, anyInvalid}
+use Rattle.bets.specs.Bet.{sized, betSize, sizeFor}
+use Rattle.seats.specs.Bits.{has, upTo, with, without, countTo, seatsWhere}
+use Rattle.seats.specs.First.{firstFrom}
+use Rattle.rounds.specs.Walk.{distance, walkOf}
+use Rattle.table.specs.Build.{smallBlindOf, dataFor, builtOf, amountsFault, listsFault, buildOf}
+use Rattle.table.specs.Cards.{cardsFrom}
+use Rattle.table.specs.Pay.{owingAfter, roomFor, settled, betOf, foldOf}
+use Rattle.table.specs.Rounds.{firstTurn, advanceOf}
+use Rattle.table.specs.Sound.{cardsOk, boardOk, soundParts}
+use Rattle.chips.specs.Sums.{sumTo, allTo}
+use Rattle.chips.specs.Whole.{isWhole, chipsIn, allWhole, sumChips}
+use Rattle.layers.specs.Folds.{mostTo, anyTo}
+use Rattle.layers.specs.Sharing.{ahead, shareOf}
+use Rattle.layers.specs.Settlement.{contends, isLevel, top, levelBelow, isLayer, potOf, putIn, holds, reached, best, wins, share, award, isPayable, awardsOf}
+use Rattle.settlement.specs.Hand.{countedOf, firstOf}
+use Rattle.settlement.specs.Settlement.{anyWon, inChips, verdictOf, raised, raisedAll, rewardsOf, settledOf}
+use Rattle.script.specs.Ascii.{bytes}
+use Rattle.script.specs.Line.{asked}
+use Rattle.script.specs.Number.{allDigits, unpadded, valueAfter, isNumber}
+use Rattle.script.specs.Print.{digitsIn, decimal, amountText, viewText, lineText}
+use Rattle.script.specs.Split.{pieces, lines}
+use Rattle.script.specs.Words.{allNumbers, firsts, lettered, wordsOf}
+use Rattle.console.specs.Opening.{amountsFrom, openingOf}
+use Rattle.console.specs.Act.{needing, ranked, actOf}
+use Rattle.console.specs.Shown.{amountOf, viewOf}
+use Rattle.console.specs.Play.{atStart, said, after, playLines, playScript}
+
+-- lines, each with its LF
+abbrev pub text : List String → List ℕ
+text [] = []
+text (l ∷ ls) = bytes l ++ bytes "\n" ++ text ls
+
+abbrev pub script : List String
+script = "t 0 10 5 0 100 100" ∷ "n" ∷ "n" ∷ "n" ∷ "p 5" ∷ "p 10" ∷ "b 9" ∷ "b 15" ∷ "b 20" ∷ "f" ∷ "w 0 0" ∷ []
+
+abbrev pub printed : List String
+printed =
+    "1 0 0 0 0 0"
+    ∷ "2 0 1 1 0 0"
+    ∷ "3 0 2 1 0 0"
+    ∷ "4 0 3 0 0 0"
+    ∷ "5 0 3 1 5 5"
+    ∷ "6 0 3 0 15 10"
+    ∷ "7 16 3 0 15 10"
+    ∷ "8 17 3 0 15 10"
+    ∷ "9 0 3 1 30 20"
+    ∷ "10 0 3 0 30 20"
+    ∷ "11 0 3 0 30 20"
+    ∷ []
+
+pub worked : playScript (text script) ≡ text printed
+unfolding sumTo allTo isWhole chipsIn allWhole sumChips mostTo anyTo ahead shareOf contends isLevel top levelBelow isLayer potOf putIn holds reached best wins share award isPayable awardsOf countedOf firstOf anyWon inChips verdictOf raised raisedAll rewardsOf countTo toUnsigned ofInt eq ne lt le add sub mul div isNan round units odd size climb span maxOf minOf signOf absOf tolOf nearZero filled sumOf aboveOf anyInvalid sized betSize sizeFor has upTo with without seatsWhere firstFrom distance walkOf smallBlindOf dataFor builtOf amountsFault listsFault buildOf cardsFrom owingAfter roomFor settled betOf foldOf firstTurn advanceOf cardsOk boardOk soundParts asked allDigits unpadded valueAfter isNumber digitsIn decimal amountText viewText lineText pieces lines allNumbers firsts lettered wordsOf amountsFrom openingOf needing ranked actOf settledOf amountOf viewOf atStart said after playLines playScript
+worked = refl

@@ -1,0 +1,76 @@
+-- Document 01, "Script program": what each line does to what stands. "Another letter or count, an empty line, or a line needing a
+-- table before one stands, is 25"; "A refused `t` keeps the old table." Definitions only.
+use Prim.Native.Nat.{ℕ}
+use mathlib.Core.Bool.{true, false, cond}
+use mathlib.Core.List.{List}
+use lib.Dec.{eqb}
+use lib.ListN.{take}
+use Rattle.refusals.specs.declared.AddedError.the-variants.{BadLine}
+use Rattle.refusals.specs.Number as Number
+use Rattle.rounds.specs.Steps.{numberOf}
+use Rattle.table.specs.declared.GameState.{GameState}
+use Rattle.table.specs.declared.TableStep.{TableStep}
+use Rattle.table.specs.declared.BetStep.{BetStep}
+use Rattle.table.specs.declared.builder.BuildAnswer.{BuildAnswer}
+use Rattle.table.specs.declared.builder.BuildAnswer.the-variants.{Built, NotBuilt}
+use Rattle.table.specs.declared.builder.BuildStep.{BuildStep}
+use Rattle.table.specs.Answers.{betNumber}
+use Rattle.table.specs.Pay.{betOf, foldOf}
+use Rattle.table.specs.Rounds.{advanceOf, completeOf}
+use Rattle.settlement.specs.declared.Settled.{Settled}
+use Rattle.settlement.specs.Settlement.{settledOf, settleNumber}
+use Rattle.script.specs.declared.line.Words.{Words}
+use Rattle.script.specs.declared.line.Line.{Line}
+use Rattle.script.specs.declared.line.Line.the-variants.{Table, Advance, Fold, Bet, Forced, Complete, Settle, Bad}
+use Rattle.script.specs.Line.{meaningOf}
+use Rattle.console.specs.declared.act.State.{State}
+use Rattle.console.specs.declared.act.Act.{Act}
+use Rattle.console.specs.Opening.{chipsOf, openingOf}
+
+-- a number beside a table that stands, and beside what stood before the line
+abbrev pub standing : ℕ → GameState → Act
+standing number t = record { number = number; state = record { stands = true; table = t } }
+
+abbrev pub kept : ℕ → State → Act
+kept number s = record { number = number; state = s }
+
+abbrev pub badLine : State → Act
+badLine s = kept (Number.addedNumber BadLine) s
+
+-- a line that needs a table: the number and the table that its step gives
+unfoldable pub needing : State → ℕ → GameState → Act
+needing s number t = cond (s .stands) (standing number t) (badLine s)
+
+abbrev pub stepped : State → TableStep → Act
+stepped s r = needing s (numberOf (r .answer)) (r .table)
+
+abbrev pub wagered : State → BetStep → Act
+wagered s r = needing s (betNumber (r .answer)) (r .table)
+
+abbrev pub settled : State → Settled → Act
+settled s r = needing s (settleNumber (r .answer)) (r .table)
+
+-- "`w` with n ranks"
+unfoldable pub ranked : State → ℕ → List ℕ → Act
+ranked s count ns = cond (eqb count (s .table .«num_players»)) (settled s (settledOf (s .table) (take 16 ns))) (badLine s)
+
+abbrev pub openedBy : State → GameState → BuildAnswer → Act
+openedBy s t Built = standing 0 t
+openedBy s t (NotBuilt r) = kept (Number.numberOf r) s
+
+abbrev pub opened : State → BuildStep → Act
+opened s r = openedBy s (r .table) (r .answer)
+
+-- what a line asks, done
+abbrev pub done : State → Words → Line → Act
+done s w Table = opened s (openingOf (w .count) (w .numbers))
+done s w Advance = stepped s (advanceOf (s .table))
+done s w Fold = stepped s (foldOf (s .table))
+done s w (Bet x) = wagered s (betOf (s .table) (chipsOf x) false)
+done s w (Forced x) = wagered s (betOf (s .table) (chipsOf x) true)
+done s w Complete = stepped s (completeOf (s .table))
+done s w Settle = ranked s (w .count) (w .numbers)
+done s w Bad = badLine s
+
+unfoldable pub actOf : Words → State → Act
+actOf w s = done s w (meaningOf w)

@@ -1,0 +1,5 @@
+pub mod Opening
+pub mod Act
+pub mod Shown
+pub mod Play
+pub mod Parts

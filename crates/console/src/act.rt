@@ -1,0 +1,153 @@
+// What a line does to what stands. How the line came, read from a script or otherwise, is no matter here.
+ghost use mathlib.Core.Path.{_≡_};
+ghost use Rattle.rounds.specs.Steps.{numberOf};
+ghost use Rattle.table.specs.Answers.{betNumber};
+ghost use Rattle.settlement.specs.Settlement.{settleNumber};
+ghost use Rattle.console.specs.Act.{badLine, needing, stepped, wagered, ranked, opened, actOf};
+use crate::opening;
+use refusals::AddedError;
+use rounds::StepAnswer;
+use script::line;
+use script::line::Line;
+use script::line::Words;
+use settlement::SettleAnswer;
+use table::BetAnswer;
+use table::BetStep;
+use table::GameState;
+use table::TableStep;
+use table::builder::BuildAnswer;
+use table::builder::BuildStep;
+
+// What stands between two lines: no table, or a table.
+pub struct State {
+    pub stands: bool,
+    pub table: GameState,
+}
+
+// What a line gives: 0 or the refusal's number, and what stands after it.
+pub struct Act {
+    pub number: u8,
+    pub state: State,
+}
+
+fn step_number(a: StepAnswer) -> u8
+    ensures { λ r. ⌜ r ≡ numberOf a ⌝ }
+{
+    match a {
+        StepAnswer::Done(_) => 0,
+        StepAnswer::Refused(r) => r.number(),
+    }
+}
+
+fn bet_number(a: BetAnswer) -> u8
+    ensures { λ r. ⌜ r ≡ betNumber a ⌝ }
+{
+    match a {
+        BetAnswer::Paid(_, _) => 0,
+        BetAnswer::NotPaid(r) => r.number(),
+    }
+}
+
+fn settle_number(a: SettleAnswer) -> u8
+    ensures { λ r. ⌜ r ≡ settleNumber a ⌝ }
+{
+    match a {
+        SettleAnswer::Paid => 0,
+        SettleAnswer::NotPaid(r) => r.number(),
+    }
+}
+
+// A bad line leaves what stands.
+fn bad_line(s: State) -> Act
+    ensures { λ r. ⌜ r ≡ badLine s ⌝ }
+{
+    Act {
+        number: AddedError::BadLine.number(),
+        state: s,
+    }
+}
+
+// A line that needs a table, with what its step gave of the table there.
+fn needing(s: State, number: u8, table: GameState) -> Act
+    ensures { λ r. ⌜ r ≡ needing s number table ⌝ }
+{
+    if s.stands {
+        return Act {
+            number,
+            state: State {
+                stands: true,
+                table,
+            },
+        };
+    }
+    bad_line(s)
+}
+
+fn stepped(s: State, step: TableStep) -> Act
+    ensures { λ r. ⌜ r ≡ stepped s step ⌝ }
+{
+    let answer = step.answer;
+    let table = step.table;
+    needing(s, step_number(answer), table)
+}
+
+fn wagered(s: State, step: BetStep) -> Act
+    ensures { λ r. ⌜ r ≡ wagered s step ⌝ }
+{
+    let answer = step.answer;
+    let table = step.table;
+    needing(s, bet_number(answer), table)
+}
+
+// A settlement has a rank for each seat.
+fn ranked(s: State, count: usize, numbers: [u16; 20]) -> Act
+    ensures { λ r. ⌜ r ≡ ranked s count numbers ⌝ }
+{
+    let t = s.table;
+    if count == t.num_players {
+        let settled = settlement::settle(t, opening::ranks_of(numbers));
+        let answer = settled.answer;
+        let table = settled.table;
+        return needing(s, settle_number(answer), table);
+    }
+    bad_line(s)
+}
+
+// A new table, or what stood where it is refused.
+fn opened(s: State, step: BuildStep) -> Act
+    ensures { λ r. ⌜ r ≡ opened s step ⌝ }
+{
+    let answer = step.answer;
+    let table = step.table;
+    match answer {
+        BuildAnswer::Built => Act {
+            number: 0,
+            state: State {
+                stands: true,
+                table,
+            },
+        },
+        BuildAnswer::NotBuilt(r) => Act {
+            number: r.number(),
+            state: s,
+        },
+    }
+}
+
+// A line played. Where no table stands, what a step gives of it is dropped.
+pub fn obey(w: Words, s: State) -> Act
+    ensures { λ r. ⌜ r ≡ actOf w s ⌝ }
+{
+    let t = s.table;
+    let numbers = w.numbers;
+    match line::meaning(w) {
+        Line::Table => opened(s, opening::open_table(w.count, numbers)),
+        Line::Advance => stepped(s, t.advance_round()),
+        Line::Fold => stepped(s, t.fold()),
+        Line::Bet(x) => wagered(s, t.do_bet(x as f32, false)),
+        Line::Forced(x) => wagered(s, t.do_bet(x as f32, true)),
+        Line::Complete => stepped(s, t.complete()),
+        Line::Settle => ranked(s, w.count, numbers),
+        Line::Bad => bad_line(s),
+    }
+}

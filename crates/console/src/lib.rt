@@ -1,0 +1,5 @@
+// Document 01, "Script program": a script played on a table, line by line, and what is printed for it.
+pub mod act;
+mod opening;
+pub mod play;
+pub mod shown;
