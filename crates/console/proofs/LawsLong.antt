@@ -7,8 +7,8 @@ use Prim.Native.Nat.{ℕ, _+_, _≤_, _<_}
 use native.Mathlib.Omega.{arith}
 use borrow.Author.Tests.{le-leb, lt-leb, leb-false, ltb-false}
 use lib.Dec.{leb, ltb}
-use lib.ListN.{length, take}
-use lib.Seq.{paste}
+use lib.ListN.{length, take, drop}
+use lib.Seq.{paste, take-at}
 use Rattle.script.specs.declared.print.Text.{Text}
 use Rattle.script.specs.Text.{textOf}
 use Rattle.script.proofs.LawsPrint.{text-bytes}
@@ -47,6 +47,10 @@ module _ {p : Part} {at : ℕ} {c : Console} (d : List ℕ) where
       let b : take (length l) (t .bytes) ≡ l = ap (λ (x : Text). take (length l) (x .bytes)) is ∙ text-bytes l in
       let z : 0 + length l ≡ length l = omega arith in
       (rw (e, a) refl, rw (lay, e, a, b, z) refl)
+
+-- the first bytes of the buffer are those of the part
+pub written : (bs d : List ℕ) → take (length bs) (over bs d) ≡ bs
+written bs d = take-at bs (drop (length bs) d) (length bs) refl
 
 pub text-fits : (l : List ℕ) {t : Text} → t ≡ textOf l → length l ≤ 72 → t .len ≤ 72
 unfolding textOf

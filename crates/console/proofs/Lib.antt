@@ -2,6 +2,7 @@ pub mod Laying
 pub mod LawsOpening
 pub mod LawsShown
 pub mod LawsAct
+pub mod LawsBack
 pub mod LawsParts
 pub mod LawsLong
 pub mod LawsWhole
