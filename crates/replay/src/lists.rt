@@ -6,6 +6,7 @@ use crate::printing::print;
 use crate::reading;
 use crate::round_lines;
 use crate::seat_lines;
+use crate::settle_lines;
 use crate::step_lines;
 
 pub enum List {
@@ -14,6 +15,7 @@ pub enum List {
     Rounds,
     Builds,
     Steps,
+    Settlements,
 }
 
 pub fn open(list: List) -> i32 {
@@ -23,6 +25,7 @@ pub fn open(list: List) -> i32 {
         List::Rounds => os::open_read(b"rounds"),
         List::Builds => os::open_read(b"builds"),
         List::Steps => os::open_read(b"steps"),
+        List::Settlements => os::open_read(b"settlements"),
     }
 }
 
@@ -33,6 +36,7 @@ pub fn print_name(list: List) {
         List::Rounds => print(b"rounds"),
         List::Builds => print(b"builds"),
         List::Steps => print(b"steps"),
+        List::Settlements => print(b"settlements"),
     }
 }
 
@@ -45,5 +49,6 @@ pub fn ask(list: List, line: &[u8], table: &mut [u32; 112]) -> Told {
         List::Rounds => round_lines::ask(head.byte, line, head.next, table),
         List::Builds => build_lines::ask(head.byte, line, head.next, table),
         List::Steps => step_lines::ask(head.byte, line, head.next, table),
+        List::Settlements => settle_lines::ask(head.byte, line, head.next, table),
     }
 }

@@ -3,6 +3,7 @@ use crate::agreeing;
 use crate::agreeing::Told;
 use crate::changes;
 use crate::inputs;
+use crate::loading;
 use crate::reading;
 use crate::table_words;
 use rounds::AmountAnswer;
@@ -12,19 +13,6 @@ use table::BetAnswer;
 use table::BetStep;
 use table::GameState;
 use table::TableStep;
-
-// A record, sound or not, that is loaded: our words of it are the line's.
-fn load(line: &[u8], at: usize, is_sound: bool, table: &mut [u32; 112]) -> Told {
-    *table = [0u32; 112];
-    let next = changes::change_all(line, at, table);
-    let t = table_words::of_words(table);
-    if t.is_sound() != is_sound {
-        return agreeing::no_match();
-    }
-    let mut ours = [0u32; 112];
-    table_words::put(t, &mut ours);
-    changes::agree_loaded(next, &ours, table)
-}
 
 fn told_answer(line: &[u8], at: usize, answer: StepAnswer) -> Told {
     match answer {
@@ -132,8 +120,8 @@ fn step_alone(letter: u8, line: &[u8], at: usize, table: &mut [u32; 112]) -> Tol
 
 pub fn ask(letter: u8, line: &[u8], at: usize, table: &mut [u32; 112]) -> Told {
     match letter {
-        b'T' => load(line, at, true, table),
-        b'U' => load(line, at, false, table),
+        b'T' => loading::load(line, at, true, table),
+        b'U' => loading::load(line, at, false, table),
         b'b' => do_bet(line, at, false, table),
         b'p' => do_bet(line, at, true, table),
         b'C' => choose(line, at, AgentAction::Call, table),

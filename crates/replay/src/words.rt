@@ -65,6 +65,15 @@ pub fn is_same_table(a: &[u32; 112], b: &[u32; 112]) -> bool {
     is_same
 }
 
+// Whether two tables are the same bit for bit.
+pub fn is_equal_table(a: &[u32; 112], b: &[u32; 112]) -> bool {
+    let mut is_equal = true;
+    for i in 0..112 {
+        is_equal = is_equal & (a[i] == b[i]);
+    }
+    is_equal
+}
+
 // The sixteen floats from a place on.
 pub fn floats_at(table: &[u32; 112], place: usize) -> [f32; 16] {
     let mut list: [f32; 16] = [0.0; 16];

@@ -14,7 +14,8 @@ pub fn table(draw: &mut Draw) -> Table {
     table
 }
 
-fn break_one(draw: &mut Draw, table: &mut Table) {
+/// One change, after which the record is not sound.
+pub fn break_one(draw: &mut Draw, table: &mut Table) {
     let n = table.get(place::NUM_PLAYERS);
     match draw.below(8) {
         0 => only_the_count(draw, table),

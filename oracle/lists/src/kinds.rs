@@ -4,7 +4,7 @@ use std::io;
 
 use crate::draw::Draw;
 use crate::list::List;
-use crate::{builds, floats, rounds, seats, steps};
+use crate::{builds, floats, rounds, seats, settlements, steps};
 
 pub struct Kind {
     pub name: &'static str,
@@ -16,10 +16,11 @@ pub struct Kind {
     pub write: fn(&mut List, &mut Draw, u64) -> io::Result<()>,
 }
 
-pub const KINDS: [Kind; 5] = [
+pub const KINDS: [Kind; 6] = [
     Kind { name: "seats", count: 300, all: Some(seats::ALL), write: seats::write },
     Kind { name: "floats", count: 100, all: None, write: floats::write },
     Kind { name: "rounds", count: 600, all: None, write: rounds::write },
     Kind { name: "builds", count: 2200, all: None, write: builds::write },
     Kind { name: "steps", count: 3050, all: None, write: steps::write },
+    Kind { name: "settlements", count: 1000, all: None, write: settlements::write },
 ];

@@ -28,6 +28,11 @@ impl Line {
         self.token(format_args!("{:08x}", amounts::bits(x)))
     }
 
+    /// A signed number as the hex digits of its bits.
+    pub fn signed(self, n: i32) -> Self {
+        self.token(format_args!("{n:08x}"))
+    }
+
     pub fn floats(self, xs: &[f32]) -> Self {
         xs.iter().fold(self, |line, &x| line.float(x))
     }

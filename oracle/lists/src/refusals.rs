@@ -10,6 +10,9 @@ pub const BAD_CARD: Refusal = 18;
 pub const BAD_RECORD: Refusal = 19;
 pub const BAD_SEAT: Refusal = 20;
 pub const COUNTER_FULL: Refusal = 21;
+pub const NOBODY_LEFT: Refusal = 22;
+pub const NOT_WHOLE_CHIPS: Refusal = 23;
+pub const ALREADY_PAID: Refusal = 24;
 
 pub fn of_build(error: GameStateBuilderError) -> Refusal {
     match error {

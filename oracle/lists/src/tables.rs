@@ -103,7 +103,8 @@ fn put_sets(draw: &mut Draw, table: &mut Table, n: usize) {
     table.set(place::TO_ACT_IDX, to_act);
 }
 
-fn put_round(draw: &mut Draw, table: &mut Table) {
+/// The round, its counters and flags, the cap and the board.
+pub fn put_round(draw: &mut Draw, table: &mut Table) {
     let round = draw.below(12);
     table.set(place::ROUND, round);
     table.set(place::ROUND_BEFORE, draw.pick(&[round, round.saturating_sub(1)]));
