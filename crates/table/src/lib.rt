@@ -1,8 +1,8 @@
 // The second half of text 000: the record, by value, with its steps and queries; the builder and the choice stand in files of their own.
 pub mod builder;
 mod checks;
-mod parts;
-mod soundness;
+pub mod parts;
+pub mod soundness;
 
 ghost use mathlib.Core.Path.{_≡_};
 ghost use Rattle.seats.specs.Bits.{countTo};

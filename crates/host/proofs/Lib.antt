@@ -1,0 +1,4 @@
+pub mod LawsLaid
+pub mod LawsRead
+pub mod Made
+pub mod Rounds
