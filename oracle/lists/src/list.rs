@@ -23,7 +23,11 @@ impl List {
     }
 
     pub fn put(&mut self, line: Line) -> io::Result<()> {
-        writeln!(self.out, "{}", line.text())
+        self.put_text(line.text())
+    }
+
+    pub fn put_text(&mut self, text: &str) -> io::Result<()> {
+        writeln!(self.out, "{text}")
     }
 
     pub fn finish(mut self) -> io::Result<()> {

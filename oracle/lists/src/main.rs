@@ -20,6 +20,7 @@ mod play;
 mod pots;
 mod refusals;
 mod rounds;
+mod scripts;
 mod seats;
 mod settled_hands;
 mod settlement;

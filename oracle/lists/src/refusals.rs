@@ -13,6 +13,8 @@ pub const COUNTER_FULL: Refusal = 21;
 pub const NOBODY_LEFT: Refusal = 22;
 pub const NOT_WHOLE_CHIPS: Refusal = 23;
 pub const ALREADY_PAID: Refusal = 24;
+pub const BAD_LINE: Refusal = 25;
+pub const SCRIPT_TOO_LONG: Refusal = 26;
 
 pub fn of_build(error: GameStateBuilderError) -> Refusal {
     match error {

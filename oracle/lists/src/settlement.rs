@@ -19,13 +19,19 @@ pub fn rank_count(table: &Table) -> usize {
 /// Settles the table by one rank for each seat, and gives the line.
 pub fn settle(table: &mut Table, ranks: &[u16]) -> Line {
     let line = ranks.iter().fold(Line::new('s'), |line, rank| line.token(rank));
-    if let Err(number) = check(table) {
-        return line.refused(number);
-    }
-    let after = paid(table, ranks);
+    let after = match settled(table, ranks) {
+        Ok(after) => after,
+        Err(number) => return line.refused(number),
+    };
     let line = rewards(&after).fold(line.answer(), Line::signed).changes(table, &after);
     *table = after;
     line
+}
+
+/// The table after settlement by one rank for each seat.
+pub fn settled(table: &Table, ranks: &[u16]) -> Result<Table, Refusal> {
+    check(table)?;
+    Ok(paid(table, ranks))
 }
 
 /// In document 01's order.

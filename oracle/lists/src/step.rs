@@ -83,15 +83,20 @@ fn bet(line: Line, table: &mut Table, amount: f32, forced: bool) -> Line {
 }
 
 fn pay(table: &Table, amount: f32, forced: bool) -> Result<(f32, Table), Refusal> {
-    let mut rehearsed = carry::game_state(table);
+    let mut state = carry::game_state(table);
+    let paid = bet_on(&mut state, amount, forced)?;
+    Ok((paid, carry::table(&state)))
+}
+
+/// A bet on a sound record. It is rehearsed, so that the Rust never meets a full counter.
+pub fn bet_on(state: &mut GameState, amount: f32, forced: bool) -> Result<f32, Refusal> {
+    let mut rehearsed = state.clone();
     sound::clear_counters(&mut rehearsed.round_data);
     rehearsed.do_bet(amount, forced).map_err(refusals::of_bet)?;
-    if sound::counter_full(carry::round_data(table), rehearsed.round_data) {
+    if sound::counter_full(state.round_data.clone(), rehearsed.round_data) {
         return Err(COUNTER_FULL);
     }
-    let mut state = carry::game_state(table);
-    let paid = state.do_bet(amount, forced).map_err(refusals::of_bet)?;
-    Ok((paid, carry::table(&state)))
+    state.do_bet(amount, forced).map_err(refusals::of_bet)
 }
 
 fn query(line: Line, state: &GameState, seat: usize) -> Line {

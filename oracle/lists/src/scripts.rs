@@ -1,0 +1,35 @@
+//! The kind `scripts`: scripts with what they print. Each case is a script by
+//! itself; those made by hand come first, then those drawn.
+
+mod drawn;
+mod forms;
+mod limits;
+mod player;
+mod pots;
+mod reading;
+mod refused;
+mod written;
+
+use std::io;
+
+use crate::draw::Draw;
+use crate::list::List;
+use written::Case;
+
+pub fn write(list: &mut List, draw: &mut Draw, count: u64) -> io::Result<()> {
+    for case in by_hand() {
+        case.put(list)?;
+    }
+    for number in 1..=count {
+        drawn::case(draw, number).put(list)?;
+    }
+    Ok(())
+}
+
+fn by_hand() -> Vec<Case> {
+    let mut cases = forms::all();
+    cases.extend(refused::all());
+    cases.extend(pots::all());
+    cases.extend(limits::all());
+    cases
+}
