@@ -14,7 +14,8 @@ use Rattle.table.specs.declared.BetAnswer.the-variants.{Paid, NotPaid}
 use Rattle.table.specs.declared.BetStep.{BetStep}
 use Rattle.table.specs.declared.TableStep.{TableStep}
 use Rattle.table.specs.Answers.{refused, notPaid}
-use Rattle.table.specs.Pay.{actor, betOf}
+use Rattle.table.specs.Pay.{betOf, foldOf, awardOf}
+use Rattle.table.specs.Rounds.{advanceOf, completeOf}
 use Rattle.host.specs.Places.{tableAt, standsIn}
 use Rattle.host.specs.Laid.{laidFloats, laidNumbers, betFloats, betNumbers}
 
@@ -22,22 +23,47 @@ use Rattle.host.specs.Laid.{laidFloats, laidNumbers, betFloats, betNumbe
 abbrev pub stepOn : List Float → List ℕ → TableStep → TableStep
 stepOn fs ns s = cond (standsIn fs ns) s (refused (Added BadRecord) (tableAt fs ns))
 
-unfoldable pub floatsAfter : StepAnswer → GameState → List Float → List Float
-floatsAfter (Done k) t fs = laidFloats t zerof fs
-floatsAfter (Refused r) t fs = fs
+abbrev pub foldOn : List Float → List ℕ → TableStep
+foldOn fs ns = stepOn fs ns (foldOf (tableAt fs ns))
 
-unfoldable pub numbersAfter : StepAnswer → GameState → List ℕ → List ℕ
-numbersAfter (Done k) t ns = laidNumbers t k ns
-numbersAfter (Refused r) t ns = ns
+abbrev pub advanceOn : List Float → List ℕ → TableStep
+advanceOn fs ns = stepOn fs ns (advanceOf (tableAt fs ns))
 
--- ---- the bet in place
-unfoldable pub betOn : List Float → List ℕ → Float → Bool → BetStep
+abbrev pub completeOn : List Float → List ℕ → TableStep
+completeOn fs ns = stepOn fs ns (completeOf (tableAt fs ns))
+
+abbrev pub awardOn : List Float → List ℕ → ℕ → Float → TableStep
+awardOn fs ns i x = stepOn fs ns (awardOf (tableAt fs ns) i x)
+
+-- the slices after it
+unfoldable pub floatsGiven : StepAnswer → GameState → List Float → List Float
+floatsGiven (Done k) t fs = laidFloats t zerof fs
+floatsGiven (Refused r) t fs = fs
+
+unfoldable pub numbersGiven : StepAnswer → GameState → List ℕ → List ℕ
+numbersGiven (Done k) t ns = laidNumbers t k ns
+numbersGiven (Refused r) t ns = ns
+
+abbrev pub floatsAfter : TableStep → List Float → List Float
+floatsAfter s fs = floatsGiven (s .answer) (s .table) fs
+
+abbrev pub numbersAfter : TableStep → List ℕ → List ℕ
+numbersAfter s ns = numbersGiven (s .answer) (s .table) ns
+
+-- ---- the bet in place: i is the seat to act
+abbrev pub betOn : List Float → List ℕ → Float → Bool → BetStep
 betOn fs ns a forced = cond (standsIn fs ns) (betOf (tableAt fs ns) a forced) (notPaid (Added BadRecord) (tableAt fs ns))
 
-unfoldable pub floatsBet : List Float → ℕ → BetStep → BetAnswer → List Float
-floatsBet fs i s (Paid x k) = betFloats fs i (s .table) x
-floatsBet fs i s (NotPaid r) = fs
+unfoldable pub floatsPut : BetAnswer → List Float → ℕ → GameState → List Float
+floatsPut (Paid x k) fs i t = betFloats fs i t x
+floatsPut (NotPaid r) fs i t = fs
 
-unfoldable pub numbersBet : List ℕ → BetStep → BetAnswer → List ℕ
-numbersBet ns s (Paid x k) = betNumbers ns (s .table) k
-numbersBet ns s (NotPaid r) = ns
+unfoldable pub numbersPut : BetAnswer → List ℕ → GameState → List ℕ
+numbersPut (Paid x k) ns t = betNumbers ns t k
+numbersPut (NotPaid r) ns t = ns
+
+abbrev pub floatsBet : List Float → ℕ → BetStep → List Float
+floatsBet fs i s = floatsPut (s .answer) fs i (s .table)
+
+abbrev pub numbersBet : List ℕ → BetStep → List ℕ
+numbersBet ns s = numbersPut (s .answer) ns (s .table)

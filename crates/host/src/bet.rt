@@ -1,9 +1,12 @@
 // The bet in place: only the places that it changes are written.
 ghost use mathlib.Core.Path.{_≡_};
+ghost use mathlib.Core.Bool.{true};
 ghost use Prim.Native.Nat.{_≤_, _<_};
 ghost use lib.ListN.{length};
-ghost use Rattle.table.specs.Pay.{verdictOf};
-ghost use Rattle.host.specs.Places.{wordAt, tableAt};
+ghost use Rattle.table.specs.Answers.{betNumber};
+ghost use Rattle.table.specs.Pay.{verdictOf, betOf};
+ghost use Rattle.host.specs.Places.{wordAt, tableAt, soundAt};
+ghost use Rattle.host.specs.Steps.{floatsBet, numbersBet};
 ghost use Rattle.host.specs.Laid.{floatsWith, numbersWith, floatsPaid, numbersPaid};
 use crate::words;
 use bets::BetSize;
@@ -115,4 +118,22 @@ pub fn pay_at(floats: &mut [f32], numbers: &mut [u32], x: f32, is_forced: bool)
         force,
         w.passed,
     );
+}
+
+// The bet on a sound table: its number.
+pub fn bet_at(floats: &mut [f32], numbers: &mut [u32], amount: f32, is_forced: bool) -> u32
+    requires { ⌜ 88 ≤ length (now floats) ⌝ }
+    requires { ⌜ 24 ≤ length (now numbers) ⌝ }
+    requires { ⌜ soundAt (now numbers) ≡ true ⌝ }
+    ensures { λ r. ⌜ r ≡ betNumber (betOf (tableAt (now (floats .entry)) (now (numbers .entry))) amount «is_forced» .answer) ⌝ }
+    ensures { λ _. ⌜ now (floats .exit) ≡ floatsBet (now (floats .entry)) (wordAt (now (numbers .entry)) 8) (betOf (tableAt (now (floats .entry)) (now (numbers .entry))) amount «is_forced») ⌝ }
+    ensures { λ _. ⌜ now (numbers .exit) ≡ numbersBet (now (numbers .entry)) (betOf (tableAt (now (floats .entry)) (now (numbers .entry))) amount «is_forced») ⌝ }
+{
+    match verdict_at(floats, numbers, amount, is_forced) {
+        BetSize::Refused(r) => words::word_of_byte(r.number()),
+        BetSize::Pays(x) => {
+            pay_at(floats, numbers, x, is_forced);
+            0
+        }
+    }
 }

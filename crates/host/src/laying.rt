@@ -4,9 +4,13 @@ ghost use Prim.Native.Nat.{_≤_, _+_};
 ghost use lib.ListN.{length, getD};
 ghost use lib.Ieee.{nan};
 ghost use Rattle.amounts.specs.Filled.{filled};
+ghost use Rattle.rounds.specs.Steps.{numberOf};
+ghost use Rattle.host.specs.Steps.{floatsAfter, numbersAfter};
 ghost use Rattle.host.specs.Laid.{laidList, numbersOf, laidFloats, laidNumbers};
 use crate::words;
+use rounds::StepAnswer;
 use table::GameState;
+use table::TableStep;
 
 // A list laid from a place on.
 fn lay_list(floats: &mut [f32], at: usize, list: [f32; 16])
@@ -108,4 +112,24 @@ pub fn lay_numbers(numbers: &mut [u32], t: GameState, passed: usize)
 {
     let list = numbers_of(t, passed);
     lay_words(numbers, list);
+}
+
+// What a step gives, laid where it is accepted: its number.
+pub fn lay_step(floats: &mut [f32], numbers: &mut [u32], s: TableStep) -> u32
+    requires { ⌜ 88 ≤ length (now floats) ⌝ }
+    requires { ⌜ 24 ≤ length (now numbers) ⌝ }
+    ensures { λ r. ⌜ r ≡ numberOf (s .answer) ⌝ }
+    ensures { λ _. ⌜ now (floats .exit) ≡ floatsAfter s (now (floats .entry)) ⌝ }
+    ensures { λ _. ⌜ now (numbers .exit) ≡ numbersAfter s (now (numbers .entry)) ⌝ }
+{
+    let answer = s.answer;
+    match answer {
+        StepAnswer::Refused(r) => words::word_of_byte(r.number()),
+        StepAnswer::Done(passed) => {
+            let t = s.table;
+            lay_floats(floats, t, 0.0);
+            lay_numbers(numbers, t, passed);
+            0
+        }
+    }
 }
