@@ -1,5 +1,8 @@
+pub mod LawsAsked
+pub mod LawsBuild
 pub mod LawsLaid
 pub mod LawsRead
+pub mod LawsRun
 pub mod LawsStep
 pub mod Made
 pub mod Rounds

@@ -1,7 +1,11 @@
 // The boundary for C and Rust: a table is two slices of the caller's, whose places include/peatcloak.h names. Each function answers 0 or document 01's
 // number, and 19 where no table stands in the slices; a refusal writes nothing.
+pub mod asking;
 mod bet;
+pub mod building;
 mod laying;
+pub mod running;
+pub mod settling;
 mod standing;
 mod words;
 
@@ -12,7 +16,6 @@ ghost use Rattle.rounds.specs.Steps.{numberOf};
 ghost use Rattle.table.specs.Answers.{betNumber};
 ghost use Rattle.host.specs.Places.{wordAt};
 ghost use Rattle.host.specs.Steps.{betOn, floatsBet, numbersBet, foldOn, advanceOn, completeOn, awardOn, floatsAfter, numbersAfter};
-use bets::BetSize;
 
 // In place: only the places that the bet changes are written.
 #[no_mangle]

@@ -10,7 +10,7 @@ use seats::PlayerBitSet;
 use table::GameState;
 
 // Whether each word is in the range of what it stands for.
-fn words_fit(numbers: &[u32]) -> bool
+pub fn words_fit(numbers: &[u32]) -> bool
     requires { ⌜ 24 ≤ length (now numbers) ⌝ }
     ensures { λ r. ⌜ r ≡ wordsFit (now (numbers .entry)) ⌝ }
 {

@@ -1,0 +1,63 @@
+-- `host::settling::ranks_of`: after i turns the list is filled up to i. Assumes nothing.
+use lib.ListN.{replicate}
+use Rattle.amounts.proofs.Filled.{filled-none, filled-next, filled-end}
+use Rattle.amounts.specs.Filled.{filled}
+use mathlib.Core.Path.{_≡_, refl, sym, _∙_}
+use lib.ListN.{length, length-set, getD}
+use native.Mathlib.Omega.{arith}
+use Prim.Native.Nat.{_≤_, _-_}
+use Rattle.host.proofs.settling.ranks_of.Statement.{statement}
+use Rattle.host.proofs.settling.ranks_of.Tie as tie
+
+abbrev Inv-loop : tie.InvT-loop
+Inv-loop ranks list₀ i₀ list i = (i ≤ 16) × (list ≡ filled i (replicate 16 0) (λ k. getD ranks k 0))
+
+abbrev μ-loop : tie.MeasureT-loop
+μ-loop ranks list₀ i₀ list i = 16 - i
+
+loop-holds : tie.Need-loop-holds Inv-loop μ-loop
+loop-holds c = (omega arith, filled-none _ _)
+
+mul-list : tie.Need-mul-list Inv-loop μ-loop
+mul-list c = omega arith
+
+shared-slice-read-list : tie.Need-shared-slice-read-list Inv-loop μ-loop
+shared-slice-read-list c = omega arith
+
+mul-list-2 : tie.Need-mul-list-2 Inv-loop μ-loop
+mul-list-2 c = omega arith
+
+array-write-list : tie.Need-array-write-list Inv-loop μ-loop
+array-write-list c = omega arith
+
+add-i : tie.Need-add-i Inv-loop μ-loop
+add-i c = omega arith
+
+loop-less : tie.Need-loop-less Inv-loop μ-loop
+loop-less c = omega arith
+
+loop-again : tie.Need-loop-again Inv-loop μ-loop
+loop-again c =
+    let at-loop = c .before .before in
+    (omega arith, filled-next _ _ _ _ _ (at-loop .loop .inv .1) refl)
+
+returns : tie.Need-returns Inv-loop μ-loop
+returns c =
+    let at-loop = c .before in
+    filled-end _ _ _ _ _ (at-loop .loop .inv .1) (at-loop .loop .inv .0) (c .loop-test .left)
+
+pub ranks-of-spec : {M : Type 1} → statement M
+ranks-of-spec =
+    tie.close
+    (tie.spec
+    Inv-loop
+    μ-loop
+    loop-holds
+    mul-list
+    shared-slice-read-list
+    mul-list-2
+    array-write-list
+    add-i
+    loop-less
+    loop-again
+    returns)
