@@ -12,6 +12,7 @@ use borrow.Author.Tests.{eqb-true}
 use Rattle.floats.specs.Helpers.{signOf}
 use Rattle.refusals.specs.declared.Refusal.the-variants.{Added}
 use Rattle.refusals.specs.declared.AddedError.the-variants.{CounterFull}
+use Rattle.refusals.proofs.Numbers.{numbered}
 use Rattle.seats.proofs.First.{differ}
 use Rattle.bets.specs.declared.BetSize.{BetSize}
 use Rattle.bets.specs.declared.BetSize.the-variants.{Pays, Refused}
@@ -24,7 +25,6 @@ use Rattle.table.specs.Answers.{betNumber}
 use Rattle.table.specs.Pay.{foldOf, foldedStep, tablePaid, sizeOf, roomFor, settled, verdictOf, betOf}
 use Rattle.table.specs.Sound.{soundOf}
 use Rattle.order.specs.Step.{isStake}
-use Rattle.order.proofs.Numbers.{numbered}
 
 pub stake-means : (a : Float) → isStake a ≡ true → (n : Amount) × Means a n
 unfolding isStake signOf

@@ -13,7 +13,6 @@ pub mod Largest
 pub mod Record
 pub mod Shown
 pub mod Ends
-pub mod Numbers
 pub mod Accepted
 pub mod FoldRecord
 pub mod PayRecord

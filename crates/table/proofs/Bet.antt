@@ -1,42 +1,61 @@
 -- The bet on a record, case by case; and the record made field by field is the definition's. Assumes nothing.
 use Prim.Native.Nat.{ℕ}
-use mathlib.Core.Path.{_≡_}
-use mathlib.Core.Bool.{Bool, true, false}
+use mathlib.Core.Path.{_≡_, sym, ap}
+use mathlib.Core.Bool.{Bool, true, false, cond, not}
 use lib.ListN.{getD, set}
 use lib.Ieee.{Float, nan, binary32, add, sub, lt}
 use Rattle.floats.specs.Helpers.{maxOf, nearZero}
 use Rattle.refusals.specs.declared.Refusal.{Refusal}
 use Rattle.refusals.specs.declared.Refusal.the-variants.{Added}
-use Rattle.refusals.specs.declared.AddedError.the-variants.{BadRecord}
+use Rattle.refusals.specs.declared.AddedError.the-variants.{BadRecord, CounterFull}
 use Rattle.seats.specs.Bits.{withIf, withoutIf}
+use Rattle.bets.specs.declared.BetSize.{BetSize}
 use Rattle.bets.specs.declared.BetSize.the-variants.{Pays, Refused}
 use Rattle.rounds.specs.declared.walking.Reached.{Reached}
 use Rattle.rounds.specs.Paying.{isRaise, upIf}
-use Rattle.rounds.specs.Steps.{after}
+use Rattle.rounds.specs.Steps.{after, fullFor}
 use Rattle.rounds.specs.Walk.{walkOf}
 use Rattle.rounds.specs.With.{withPaid, withTurn}
 use Rattle.table.specs.declared.GameState.{GameState}
-use Rattle.table.specs.Answers.{paid, notPaid}
-use Rattle.table.specs.Pay.{actor, leftOf, owingAfter, paidStep, verdictOf, settled, betOf}
+use Rattle.table.specs.declared.BetAnswer.{BetAnswer}
+use Rattle.table.specs.declared.BetAnswer.the-variants.{Paid, NotPaid}
+use Rattle.table.specs.declared.BetStep.{BetStep}
+use Rattle.table.specs.Answers.{notPaid}
+use Rattle.table.specs.Pay.{actor, leftOf, owingAfter, paidStep, sizeOf, roomFor, settled, betOf}
 use Rattle.table.specs.Sound.{soundOf}
 use Rattle.table.specs.With.{withPayment}
 
-module _ (t : GameState) (a : Float) (forced : Bool) where
-  pub bet-bad : soundOf t ≡ false → notPaid (Added BadRecord) t ≡ betOf t a forced
-  unfolding betOf
-  bet-bad s = rw s
+abbrev pub stepOf : BetAnswer → GameState → BetStep
+stepOf answer t = record { answer = answer; table = t }
 
-  pub bet-refused : (r : Refusal) → soundOf t ≡ true → verdictOf t a forced ≡ Refused r → notPaid r t ≡ betOf t a forced
-  unfolding betOf settled
-  bet-refused r s v = rw (s, v)
+turned : (b c : Bool) → not b ≡ c → b ≡ not c
+turned true c h = ap not h
+turned false c h = ap not h
 
-  pub bet-paid : (x : Float) → soundOf t ≡ true → verdictOf t a forced ≡ Pays x → paidStep t x forced ≡ betOf t a forced
-  unfolding betOf settled
-  bet-paid x s v = rw (s, v)
+-- ok is what the soundness test gave, size what the amount came to, full what the counters' test gave
+module _ (t : GameState) (ok : Bool) (test : ok ≡ soundOf t) where
+  module _ (a : Float) (forced : Bool) where
+    pub bet-bad : ok ≡ false → notPaid (Added BadRecord) t ≡ betOf t a forced
+    unfolding betOf
+    bet-bad h = rw (sym test, h)
+
+    module _ (size : BetSize) (sized : size ≡ sizeOf t a forced) (h : ok ≡ true) where
+      pub bet-refused : (r : Refusal) → size ≡ Refused r → notPaid r t ≡ betOf t a forced
+      unfolding betOf settled roomFor
+      bet-refused r v = rw (sym test, h, sym sized, v)
+
+      module _ (x : Float) (pays : size ≡ Pays x) (full : Bool) (counted : full ≡ fullFor (t .«round_data») x forced) where
+        pub bet-full : (k : ℕ) (answer : BetAnswer) → not full ≡ false → answer ≡ cond (not full) (Paid x k) (NotPaid (Added CounterFull)) → stepOf answer t ≡ betOf t a forced
+        unfolding betOf settled roomFor
+        bet-full k answer f e = rw (e, f, sym test, h, sym sized, pays, sym counted, turned full false f)
+
+        pub bet-paid : not full ≡ true → paidStep t x forced ≡ betOf t a forced
+        unfolding betOf settled roomFor
+        bet-paid f = rw (sym test, h, sym sized, pays, sym counted, turned full true f)
 
 -- what the code makes of its callees' results is what the definition says of them
 module _ (t : GameState) (x : Float) (forced : Bool) where
-  pub made : (out up : Bool) (b m : Float) (owed total raise force active allIn : ℕ) (w : Reached)
+  pub made : (out up room : Bool) (b m : Float) (owed total raise force active allIn : ℕ) (w : Reached) (answer : BetAnswer)
       → out ≡ nearZero (leftOf t x)
       → b ≡ maxOf (t .«round_data» .bet) (after (t .«round_data») x)
       → m ≡ maxOf (t .«round_data» .«min_raise») (sub binary32 b (t .«round_data» .bet))
@@ -48,10 +67,12 @@ module _ (t : GameState) (x : Float) (forced : Bool) where
       → force ≡ upIf forced (t .«round_data» .«forced_bet_count»)
       → active ≡ withoutIf out (t .«player_active» .set) (actor t)
       → allIn ≡ withIf out (t .«player_all_in» .set) (actor t)
-      → paid x (w .passed)
+      → room ≡ true
+      → answer ≡ cond room (Paid x (w .passed)) (NotPaid (Added CounterFull))
+      → stepOf answer
       (withPayment t active allIn (add binary32 (t .«total_pot») x) (set (t .stacks) (actor t) (leftOf t x))
       (set (t .«player_bet») (actor t) (add binary32 (getD (t .«player_bet») (actor t) nan) x))
       (withTurn (withPaid (t .«round_data») m b (set (t .«round_data» .«player_bet») (actor t) (after (t .«round_data») x)) total raise force) owed (w .seat)))
       ≡ paidStep t x forced
-  made out up b m owed total raise force active allIn w e1 e2 e3 e4 e5 e6 e7 e8 e9 e10 e11 =
-      rw (e11, e10, e9, e8, e7, e6, e5, e4, e3, e2, e1)
+  made out up room b m owed total raise force active allIn w answer e1 e2 e3 e4 e5 e6 e7 e8 e9 e10 e11 e12 e13 =
+      rw (e13, e12, e11, e10, e9, e8, e7, e6, e5, e4, e3, e2, e1)

@@ -1,7 +1,7 @@
 -- What the test of a record says, test by test; and the cards one at a time, for the loop that looks at them. Assumes nothing.
 use Prim.Native.Nat.{ℕ, zero, suc, _-_, _<_, _≤_, _^_}
 use native.Mathlib.Omega.{arith}
-use mathlib.Core.Path.{_≡_, refl, sym}
+use mathlib.Core.Path.{_≡_, refl, sym, _∙_}
 use mathlib.Core.Bool.{Bool, true, false, _&&_}
 use mathlib.Core.List.{List}
 use lib.Dec.{T, leb→le, ltb→lt, eqb→eq}
@@ -73,3 +73,7 @@ sound t p =
       start = ltb→lt _ _ (sets .1 .1 .1 .0);
       cards = holds _ (sets .1 .1 .1 .1);
     }
+
+-- the same of a test that code has made and passed
+pub passed : (t : GameState) (ok : Bool) → ok ≡ soundOf t → ok ≡ true → Sound t
+passed t ok test h = sound t (sym test ∙ h)

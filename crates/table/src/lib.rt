@@ -17,6 +17,7 @@ use rounds::AmountAnswer;
 use rounds::Round;
 use rounds::RoundData;
 use rounds::StepAnswer;
+use rounds::paying;
 use seats::PlayerBitSet;
 
 pub struct GameState {
@@ -145,38 +146,38 @@ impl GameState {
     }
 
     // The seat to act bets the amount. One exit, and the record in one place: a by-value step costs what is copied.
-    pub fn do_bet(mut self, amount: f32, is_forced: bool) -> BetStep
+    pub fn do_bet(self, amount: f32, is_forced: bool) -> BetStep
         ensures { λ r. ⌜ r ≡ betOf self amount «is_forced» ⌝ }
     {
-        let i = self.round_data.to_act_idx;
-        let n = self.round_data.player_bet_len;
-        let active = self.player_active.set;
-        let all_in = self.player_all_in.set;
-        let owing = self.round_data.needs_action.set;
-        let start = self.round_data.starting_player_active.set;
-        let board = self.board;
+        let mut t = self;
+        let i = t.round_data.to_act_idx;
+        let n = t.round_data.player_bet_len;
+        let active = t.player_active.set;
+        let all_in = t.player_all_in.set;
+        let owing = t.round_data.needs_action.set;
+        let start = t.round_data.starting_player_active.set;
+        let board = t.board;
         let mut answer = BetAnswer::NotPaid(Refusal::Added(AddedError::BadRecord));
         if soundness::is_sound(
-            self.num_players,
+            t.num_players,
             n,
-            self.dealer_idx,
+            t.dealer_idx,
             i,
             active,
             all_in,
             owing,
             start,
-            self.board_len,
+            t.board_len,
             board,
         ) {
-            let mut d = self.round_data;
+            let mut d = t.round_data;
             let old = d.bet;
             let p = d.player_bet[i];
-            let k = self.stacks[i];
+            let k = t.stacks[i];
             let total = d.total_bet_count;
             let raise = d.total_raise_count;
             let force = d.forced_bet_count;
-            let size = bets::validate(is_forced, amount, p, k, old, d.min_raise);
-            match parts::if_room(size, total, raise, force, is_forced, old, p) {
+            match bets::validate(is_forced, amount, p, k, old, d.min_raise) {
                 BetSize::Refused(r) => {
                     answer = BetAnswer::NotPaid(r);
                 }
@@ -188,29 +189,29 @@ impl GameState {
                     let least = floats::max(d.min_raise, b - old);
                     let owed = parts::owing_after(old < b, is_forced, out, owing, active, i);
                     let w = rounds::walking::walk(owed, n, i);
-                    let up = rounds::paying::is_raise(is_forced, old, y);
-                    d.min_raise = least;
-                    d.bet = b;
-                    d.player_bet[i] = y;
-                    d.total_bet_count = rounds::paying::up_if(true, total);
-                    d.total_raise_count = rounds::paying::up_if(up, raise);
-                    d.forced_bet_count = rounds::paying::up_if(is_forced, force);
-                    d.needs_action.set = owed;
-                    d.to_act_idx = w.seat;
-                    self.round_data = d;
-                    self.player_active.set = seats::bits::without_if(out, active, i);
-                    self.player_all_in.set = seats::bits::with_if(out, all_in, i);
-                    self.total_pot = self.total_pot + x;
-                    self.stacks[i] = left;
-                    self.player_bet[i] = self.player_bet[i] + x;
-                    answer = BetAnswer::Paid(x, w.passed);
+                    let up = paying::is_raise(is_forced, old, y);
+                    let room = !paying::counter_full(total, raise, force, is_forced, old, y);
+                    answer = parts::paid_if(room, x, w.passed);
+                    if room {
+                        d.min_raise = least;
+                        d.bet = b;
+                        d.player_bet[i] = y;
+                        d.total_bet_count = paying::up_if(true, total);
+                        d.total_raise_count = paying::up_if(up, raise);
+                        d.forced_bet_count = paying::up_if(is_forced, force);
+                        d.needs_action.set = owed;
+                        d.to_act_idx = w.seat;
+                        t.round_data = d;
+                        t.player_active.set = seats::bits::without_if(out, active, i);
+                        t.player_all_in.set = seats::bits::with_if(out, all_in, i);
+                        t.total_pot = t.total_pot + x;
+                        t.stacks[i] = left;
+                        t.player_bet[i] = t.player_bet[i] + x;
+                    }
                 }
             }
         }
-        BetStep {
-            answer,
-            table: self,
-        }
+        BetStep { answer, table: t }
     }
 
     // The seat to act leaves the hand.
@@ -244,11 +245,11 @@ impl GameState {
             AgentAction::AllIn => self.do_bet(floats::infinity(), false),
             AgentAction::Fold => {
                 let s = self.fold();
-                let t = s.table;
+                let folded = s.table;
                 let a = s.answer;
                 BetStep {
                     answer: paying_nothing(a),
-                    table: t,
+                    table: folded,
                 }
             }
         }

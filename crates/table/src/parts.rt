@@ -1,35 +1,25 @@
-// The parts of a step that need no record: room in the counters, who owes after a payment, a round's opening turn.
+// The parts of a step that need no record: what a payment answers, who owes after it, a round's opening turn.
 ghost use mathlib.Core.Path.{_≡_};
 ghost use mathlib.Core.Bool.{cond};
-ghost use Rattle.table.specs.Pay.{roomFor, owingAfter};
+ghost use Rattle.refusals.specs.declared.Refusal.the-variants.{Added};
+ghost use Rattle.refusals.specs.declared.AddedError.the-variants.{CounterFull};
+ghost use Rattle.table.specs.declared.BetAnswer.the-variants.{Paid, NotPaid};
+ghost use Rattle.table.specs.Pay.{owingAfter};
 ghost use Rattle.table.specs.Rounds.{firstTurn};
-use bets::BetSize;
+use crate::BetAnswer;
 use refusals::AddedError;
 use refusals::Refusal;
 use rounds::walking;
 use rounds::walking::Reached;
 
-// A payment stands only if each counter that it raises has room: p is the payer's round bet, b the bet.
-pub fn if_room(
-    size: BetSize,
-    total: u8,
-    raise: u8,
-    force: u8,
-    forced: bool,
-    b: f32,
-    p: f32,
-) -> BetSize
-    ensures { λ r. ⌜ r ≡ roomFor total raise force forced b p size ⌝ }
+// A payment stands only if each counter that it raises has room.
+pub fn paid_if(room: bool, x: f32, passed: usize) -> BetAnswer
+    ensures { λ r. ⌜ r ≡ cond room (Paid x passed) (NotPaid (Added CounterFull)) ⌝ }
 {
-    match size {
-        BetSize::Refused(r) => BetSize::Refused(r),
-        BetSize::Pays(x) => {
-            if rounds::paying::counter_full(total, raise, force, forced, b, p + x) {
-                return BetSize::Refused(Refusal::Added(AddedError::CounterFull));
-            }
-            BetSize::Pays(x)
-        }
+    if room {
+        return BetAnswer::Paid(x, passed);
     }
+    BetAnswer::NotPaid(Refusal::Added(AddedError::CounterFull))
 }
 
 fn either(rose: bool, active: u16, owed: u16) -> u16

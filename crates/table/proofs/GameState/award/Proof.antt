@@ -1,9 +1,9 @@
 -- `table::GameState::award`: each return by its tests; a seat of a sound record is a place of each list. Assumes nothing.
-use mathlib.Core.Path.{sym, ap, _∙_}
+use mathlib.Core.Path.{sym, _∙_}
 use native.Mathlib.Omega.{arith}
 use borrow.Author.Tests.{lt-ltb, le-ltb}
 use Rattle.table.specs.Pay.{awardOf}
-use Rattle.table.proofs.Sound.{sound}
+use Rattle.table.proofs.Sound.{passed}
 use borrow.Author.Needs.{needs}
 use Rattle.table.proofs.GameState.award.Statement.{statement}
 use Rattle.table.proofs.GameState.award.Tie as tie
@@ -15,57 +15,49 @@ mul-self : tie.Need-mul-self
 mul-self c =
     let at-if1 = c .before in
     let at-is-sound = at-if1 .before in
-    let at-start = at-is-sound .before in
-    omega (arith, sound (at-start .args .t1) (sym (at-is-sound .is-sound .ensures) ∙ at-if1 .if1 .taken) .most)
+    omega (arith, passed (at-is-sound .before .args .t1) _ (at-is-sound .is-sound .ensures) (at-if1 .if1 .taken) .most)
 
 element-copy-out-self : tie.Need-element-copy-out-self
 element-copy-out-self c =
     let at-if1 = c .before in
     let at-is-sound = at-if1 .before in
-    let at-start = at-is-sound .before in
-    omega (arith, sound (at-start .args .t1) (sym (at-is-sound .is-sound .ensures) ∙ at-if1 .if1 .taken) .most)
+    omega (arith, passed (at-is-sound .before .args .t1) _ (at-is-sound .is-sound .ensures) (at-if1 .if1 .taken) .most)
 
 mul-self-2 : tie.Need-mul-self-2
 mul-self-2 c =
     let at-if1 = c .before .before in
     let at-is-sound = at-if1 .before in
-    let at-start = at-is-sound .before in
-    omega (arith, sound (at-start .args .t1) (sym (at-is-sound .is-sound .ensures) ∙ at-if1 .if1 .taken) .most)
+    omega (arith, passed (at-is-sound .before .args .t1) _ (at-is-sound .is-sound .ensures) (at-if1 .if1 .taken) .most)
 
 element-write-self : tie.Need-element-write-self
 element-write-self c =
     let at-if1 = c .before .before in
     let at-is-sound = at-if1 .before in
-    let at-start = at-is-sound .before in
-    omega (arith, sound (at-start .args .t1) (sym (at-is-sound .is-sound .ensures) ∙ at-if1 .if1 .taken) .most)
+    omega (arith, passed (at-is-sound .before .args .t1) _ (at-is-sound .is-sound .ensures) (at-if1 .if1 .taken) .most)
 
 mul-self-3 : tie.Need-mul-self-3
 mul-self-3 c =
     let at-if1 = c .before .before in
     let at-is-sound = at-if1 .before in
-    let at-start = at-is-sound .before in
-    omega (arith, sound (at-start .args .t1) (sym (at-is-sound .is-sound .ensures) ∙ at-if1 .if1 .taken) .most)
+    omega (arith, passed (at-is-sound .before .args .t1) _ (at-is-sound .is-sound .ensures) (at-if1 .if1 .taken) .most)
 
 element-copy-out-self-2 : tie.Need-element-copy-out-self-2
 element-copy-out-self-2 c =
     let at-if1 = c .before .before in
     let at-is-sound = at-if1 .before in
-    let at-start = at-is-sound .before in
-    omega (arith, sound (at-start .args .t1) (sym (at-is-sound .is-sound .ensures) ∙ at-if1 .if1 .taken) .most)
+    omega (arith, passed (at-is-sound .before .args .t1) _ (at-is-sound .is-sound .ensures) (at-if1 .if1 .taken) .most)
 
 mul-self-4 : tie.Need-mul-self-4
 mul-self-4 c =
     let at-if1 = c .before .before .before in
     let at-is-sound = at-if1 .before in
-    let at-start = at-is-sound .before in
-    omega (arith, sound (at-start .args .t1) (sym (at-is-sound .is-sound .ensures) ∙ at-if1 .if1 .taken) .most)
+    omega (arith, passed (at-is-sound .before .args .t1) _ (at-is-sound .is-sound .ensures) (at-if1 .if1 .taken) .most)
 
 element-write-self-2 : tie.Need-element-write-self-2
 element-write-self-2 c =
     let at-if1 = c .before .before .before in
     let at-is-sound = at-if1 .before in
-    let at-start = at-is-sound .before in
-    omega (arith, sound (at-start .args .t1) (sym (at-is-sound .is-sound .ensures) ∙ at-if1 .if1 .taken) .most)
+    omega (arith, passed (at-is-sound .before .args .t1) _ (at-is-sound .is-sound .ensures) (at-if1 .if1 .taken) .most)
 
 returns : tie.Need-returns
 unfolding awardOf

@@ -1,9 +1,9 @@
 -- `table::GameState::do_bet`: each way to the exit is a case of the definition; the record is made field by field of the callees' results.
 -- Assumes nothing.
 use native.Mathlib.Omega.{arith}
-use mathlib.Core.Path.{sym, _∙_}
-use Rattle.table.proofs.Bet.{bet-bad, bet-refused, bet-paid, made}
-use Rattle.table.proofs.Sound.{sound}
+use mathlib.Core.Path.{_∙_}
+use Rattle.table.proofs.Sound.{passed}
+use Rattle.table.proofs.Bet.{bet-bad, bet-refused, bet-full, bet-paid, made}
 use borrow.Author.Needs.{needs}
 use Rattle.table.proofs.GameState.do_bet.Statement.{statement}
 use Rattle.table.proofs.GameState.do_bet.Tie as tie
@@ -15,31 +15,28 @@ mul-p : tie.Need-mul-p
 mul-p c =
     let at-if1 = c .before in
     let at-is-sound = at-if1 .before in
-    omega (arith, sound (at-is-sound .before .before .args .t1) (sym (at-is-sound .is-sound .ensures) ∙ at-if1 .if1 .taken) .place)
+    omega (arith, passed (at-is-sound .before .before .args .self) _ (at-is-sound .is-sound .ensures) (at-if1 .if1 .taken) .place)
 
 element-copy-out-p : tie.Need-element-copy-out-p
 element-copy-out-p c =
     let at-if1 = c .before in
     let at-is-sound = at-if1 .before in
-    sound (at-is-sound .before .before .args .t1) (sym (at-is-sound .is-sound .ensures) ∙ at-if1 .if1 .taken) .place
+    passed (at-is-sound .before .before .args .self) _ (at-is-sound .is-sound .ensures) (at-if1 .if1 .taken) .place
 
 mul-k : tie.Need-mul-k
 mul-k c =
     let at-if1 = c .before .before in
     let at-is-sound = at-if1 .before in
-    omega (arith, sound (at-is-sound .before .before .args .t1) (sym (at-is-sound .is-sound .ensures) ∙ at-if1 .if1 .taken) .place)
+    omega (arith, passed (at-is-sound .before .before .args .self) _ (at-is-sound .is-sound .ensures) (at-if1 .if1 .taken) .place)
 
 element-copy-out-k : tie.Need-element-copy-out-k
 element-copy-out-k c =
     let at-if1 = c .before .before in
     let at-is-sound = at-if1 .before in
-    sound (at-is-sound .before .before .args .t1) (sym (at-is-sound .is-sound .ensures) ∙ at-if1 .if1 .taken) .place
+    passed (at-is-sound .before .before .args .self) _ (at-is-sound .is-sound .ensures) (at-if1 .if1 .taken) .place
 
 validate-requires : tie.Need-validate-requires
 validate-requires c κs = search needs
-
-if-room-requires : tie.Need-if-room-requires
-if-room-requires c κs = search needs
 
 enum-known-r : tie.Need-enum-known-r
 enum-known-r c = search needs
@@ -65,17 +62,23 @@ walk-requires c κs = search needs
 is-raise-requires : tie.Need-is-raise-requires
 is-raise-requires c κs = search needs
 
+counter-full-requires : tie.Need-counter-full-requires
+counter-full-requires c κs = search needs
+
+paid-if-requires : tie.Need-paid-if-requires
+paid-if-requires c κs = search needs
+
 mul-d : tie.Need-mul-d
 mul-d c =
-    let at-if1 = c .before .before .before .before .before .before .before .before .before .before .before .before .before .before in
+    let at-if1 = c .before .before .before .before .before .before .before .before .before .before .before .before .before .before .before .before in
     let at-is-sound = at-if1 .before in
-    omega (arith, sound (at-is-sound .before .before .args .t1) (sym (at-is-sound .is-sound .ensures) ∙ at-if1 .if1 .taken) .place)
+    omega (arith, passed (at-is-sound .before .before .args .self) _ (at-is-sound .is-sound .ensures) (at-if1 .if1 .taken) .place)
 
 element-write-d : tie.Need-element-write-d
 element-write-d c =
-    let at-if1 = c .before .before .before .before .before .before .before .before .before .before .before .before .before .before in
+    let at-if1 = c .before .before .before .before .before .before .before .before .before .before .before .before .before .before .before .before in
     let at-is-sound = at-if1 .before in
-    sound (at-is-sound .before .before .args .t1) (sym (at-is-sound .is-sound .ensures) ∙ at-if1 .if1 .taken) .place
+    passed (at-is-sound .before .before .args .self) _ (at-is-sound .is-sound .ensures) (at-if1 .if1 .taken) .place
 
 up-if-requires : tie.Need-up-if-requires
 up-if-requires c κs = search needs
@@ -92,52 +95,72 @@ without-if-requires c κs = search needs
 with-if-requires : tie.Need-with-if-requires
 with-if-requires c κs = search needs
 
-mul-self : tie.Need-mul-self
-mul-self c =
-    let at-if1 = c .before .before .before .before .before .before .before .before .before .before .before .before .before .before .before .before .before .before .before .before .before .before in
+mul-t : tie.Need-mul-t
+mul-t c =
+    let at-if1 = c .before .before .before .before .before .before .before .before .before .before .before .before .before .before .before .before .before .before .before .before .before .before .before .before in
     let at-is-sound = at-if1 .before in
-    omega (arith, sound (at-is-sound .before .before .args .t1) (sym (at-is-sound .is-sound .ensures) ∙ at-if1 .if1 .taken) .place)
+    omega (arith, passed (at-is-sound .before .before .args .self) _ (at-is-sound .is-sound .ensures) (at-if1 .if1 .taken) .place)
 
-element-write-self : tie.Need-element-write-self
-element-write-self c =
-    let at-if1 = c .before .before .before .before .before .before .before .before .before .before .before .before .before .before .before .before .before .before .before .before .before .before in
+element-write-t : tie.Need-element-write-t
+element-write-t c =
+    let at-if1 = c .before .before .before .before .before .before .before .before .before .before .before .before .before .before .before .before .before .before .before .before .before .before .before .before in
     let at-is-sound = at-if1 .before in
-    sound (at-is-sound .before .before .args .t1) (sym (at-is-sound .is-sound .ensures) ∙ at-if1 .if1 .taken) .place
+    passed (at-is-sound .before .before .args .self) _ (at-is-sound .is-sound .ensures) (at-if1 .if1 .taken) .place
 
-mul-self-2 : tie.Need-mul-self-2
-mul-self-2 c =
-    let at-if1 = c .before .before .before .before .before .before .before .before .before .before .before .before .before .before .before .before .before .before .before .before .before .before in
+mul-t-2 : tie.Need-mul-t-2
+mul-t-2 c =
+    let at-if1 = c .before .before .before .before .before .before .before .before .before .before .before .before .before .before .before .before .before .before .before .before .before .before .before .before in
     let at-is-sound = at-if1 .before in
-    omega (arith, sound (at-is-sound .before .before .args .t1) (sym (at-is-sound .is-sound .ensures) ∙ at-if1 .if1 .taken) .place)
+    omega (arith, passed (at-is-sound .before .before .args .self) _ (at-is-sound .is-sound .ensures) (at-if1 .if1 .taken) .place)
 
-element-copy-out-self : tie.Need-element-copy-out-self
-element-copy-out-self c =
-    let at-if1 = c .before .before .before .before .before .before .before .before .before .before .before .before .before .before .before .before .before .before .before .before .before .before in
+element-copy-out-t : tie.Need-element-copy-out-t
+element-copy-out-t c =
+    let at-if1 = c .before .before .before .before .before .before .before .before .before .before .before .before .before .before .before .before .before .before .before .before .before .before .before .before in
     let at-is-sound = at-if1 .before in
-    sound (at-is-sound .before .before .args .t1) (sym (at-is-sound .is-sound .ensures) ∙ at-if1 .if1 .taken) .place
+    passed (at-is-sound .before .before .args .self) _ (at-is-sound .is-sound .ensures) (at-if1 .if1 .taken) .place
 
-mul-self-3 : tie.Need-mul-self-3
-mul-self-3 c =
-    let at-if1 = c .before .before .before .before .before .before .before .before .before .before .before .before .before .before .before .before .before .before .before .before .before .before .before in
+mul-t-3 : tie.Need-mul-t-3
+mul-t-3 c =
+    let at-if1 = c .before .before .before .before .before .before .before .before .before .before .before .before .before .before .before .before .before .before .before .before .before .before .before .before .before in
     let at-is-sound = at-if1 .before in
-    omega (arith, sound (at-is-sound .before .before .args .t1) (sym (at-is-sound .is-sound .ensures) ∙ at-if1 .if1 .taken) .place)
+    omega (arith, passed (at-is-sound .before .before .args .self) _ (at-is-sound .is-sound .ensures) (at-if1 .if1 .taken) .place)
 
-element-write-self-2 : tie.Need-element-write-self-2
-element-write-self-2 c =
-    let at-if1 = c .before .before .before .before .before .before .before .before .before .before .before .before .before .before .before .before .before .before .before .before .before .before .before in
+element-write-t-2 : tie.Need-element-write-t-2
+element-write-t-2 c =
+    let at-if1 = c .before .before .before .before .before .before .before .before .before .before .before .before .before .before .before .before .before .before .before .before .before .before .before .before .before in
     let at-is-sound = at-if1 .before in
-    sound (at-is-sound .before .before .args .t1) (sym (at-is-sound .is-sound .ensures) ∙ at-if1 .if1 .taken) .place
+    passed (at-is-sound .before .before .args .self) _ (at-is-sound .is-sound .ensures) (at-if1 .if1 .taken) .place
 
+-- ---- the ways that leave the table: a refused amount, a full counter, an unsound record
 returns : tie.Need-returns
 returns c =
     let at-r = c .before in
-    let at-if-room = at-r .before .before in
-    let at-validate = at-if-room .before in
+    let at-validate = at-r .before .before in
     let at-if1 = at-validate .before .before .before .before in
     let at-is-sound = at-if1 .before in
     let at-start = at-is-sound .before .before in
-    bet-refused (at-start .args .t1) (at-start .args .amount) (at-start .args .is-forced) _ (sym (at-is-sound .is-sound .ensures) ∙ at-if1 .if1 .taken) (rw (at-validate .validate .ensures) at (sym (at-if-room .if-room .ensures) ∙ at-r .r .given .1))
+    bet-refused (at-start .args .self) _ (at-is-sound .is-sound .ensures) (at-start .args .amount) (at-start .args .is-forced)
+    _ (at-validate .validate .ensures) (at-if1 .if1 .taken) _ (at-r .r .given .1)
 
+returns-3 : tie.Need-returns-3
+returns-3 c =
+    let at-paid-if = c .before in
+    let at-counter-full = at-paid-if .before in
+    let at-x = at-counter-full .before .before .before .before .before .before .before .before in
+    let at-validate = at-x .before .before in
+    let at-if1 = at-validate .before .before .before .before in
+    let at-is-sound = at-if1 .before in
+    let at-start = at-is-sound .before .before in
+    bet-full (at-start .args .self) _ (at-is-sound .is-sound .ensures) (at-start .args .amount) (at-start .args .is-forced)
+    _ (at-validate .validate .ensures) (at-if1 .if1 .taken) _ (at-x .x .given .1) _ (at-counter-full .counter-full .ensures) _ _ (c .if2 .left) (at-paid-if .paid-if .ensures)
+
+returns-4 : tie.Need-returns-4
+returns-4 c =
+    let at-is-sound = c .before in
+    let at-start = at-is-sound .before .before in
+    bet-bad (at-start .args .self) _ (at-is-sound .is-sound .ensures) (at-start .args .amount) (at-start .args .is-forced) (c .if1 .left)
+
+-- ---- the payment
 returns-2 : tie.Need-returns-2
 returns-2 c =
     let at-with-if = c .before .before in
@@ -145,29 +168,26 @@ returns-2 c =
     let at-up-if3 = at-without-if .before .before in
     let at-up-if2 = at-up-if3 .before in
     let at-up-if = at-up-if2 .before in
-    let at-is-raise = at-up-if .before in
+    let at-if2 = at-up-if .before in
+    let at-paid-if = at-if2 .before in
+    let at-counter-full = at-paid-if .before in
+    let at-is-raise = at-counter-full .before in
     let at-walk = at-is-raise .before in
     let at-owing-after = at-walk .before in
     let at-max2 = at-owing-after .before in
     let at-max = at-max2 .before in
     let at-is-near-zero = at-max .before in
     let at-x = at-is-near-zero .before .before in
-    let at-if-room = at-x .before .before in
-    let at-validate = at-if-room .before in
+    let at-validate = at-x .before .before in
     let at-if1 = at-validate .before .before .before .before in
     let at-is-sound = at-if1 .before in
     let at-start = at-is-sound .before .before in
-    made (at-start .args .t1) _ (at-start .args .is-forced) _ _ _ _ _ _ _ _ _ _ _
+    made (at-start .args .self) _ (at-start .args .is-forced) _ _ _ _ _ _ _ _ _ _ _ _ _
     (at-is-near-zero .is-near-zero .ensures) (at-max .max .ensures) (at-max2 .max2 .ensures) (at-owing-after .owing-after .ensures)
     (at-walk .walk .ensures) (at-is-raise .is-raise .ensures) (at-up-if .up-if .ensures) (at-up-if2 .up-if2 .ensures)
-    (at-up-if3 .up-if3 .ensures) (at-without-if .without-if .ensures) (at-with-if .with-if .ensures)
-    ∙ bet-paid (at-start .args .t1) (at-start .args .amount) (at-start .args .is-forced) _ (sym (at-is-sound .is-sound .ensures) ∙ at-if1 .if1 .taken) (rw (at-validate .validate .ensures) at (sym (at-if-room .if-room .ensures) ∙ at-x .x .given .1))
-
-returns-3 : tie.Need-returns-3
-returns-3 c =
-    let at-is-sound = c .before in
-    let at-start = at-is-sound .before .before in
-    bet-bad _ _ _ (sym (at-is-sound .is-sound .ensures) ∙ c .if1 .left)
+    (at-up-if3 .up-if3 .ensures) (at-without-if .without-if .ensures) (at-with-if .with-if .ensures) (at-if2 .if2 .taken) (at-paid-if .paid-if .ensures)
+    ∙ bet-paid (at-start .args .self) _ (at-is-sound .is-sound .ensures) (at-start .args .amount) (at-start .args .is-forced)
+    _ (at-validate .validate .ensures) (at-if1 .if1 .taken) _ (at-x .x .given .1) _ (at-counter-full .counter-full .ensures) (at-if2 .if2 .taken)
 
 pub do-bet-spec : {M : Type 1} → statement M
 do-bet-spec =
@@ -179,7 +199,6 @@ do-bet-spec =
     mul-k
     element-copy-out-k
     validate-requires
-    if-room-requires
     enum-known-r
     enum-known-x
     is-near-zero-requires
@@ -188,6 +207,8 @@ do-bet-spec =
     owing-after-requires
     walk-requires
     is-raise-requires
+    counter-full-requires
+    paid-if-requires
     mul-d
     element-write-d
     up-if-requires
@@ -195,12 +216,13 @@ do-bet-spec =
     up-if-requires-3
     without-if-requires
     with-if-requires
-    mul-self
-    element-write-self
-    mul-self-2
-    element-copy-out-self
-    mul-self-3
-    element-write-self-2
+    mul-t
+    element-write-t
+    mul-t-2
+    element-copy-out-t
+    mul-t-3
+    element-write-t-2
     returns
     returns-2
-    returns-3)
+    returns-3
+    returns-4)

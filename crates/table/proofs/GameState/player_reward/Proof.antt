@@ -1,9 +1,9 @@
 -- `table::GameState::player_reward`: each return by its tests; a seat of a sound record is a place of each list. Assumes nothing.
-use mathlib.Core.Path.{sym, ap, _∙_}
+use mathlib.Core.Path.{sym, _∙_}
 use native.Mathlib.Omega.{arith}
 use borrow.Author.Tests.{lt-ltb, le-ltb}
 use Rattle.table.specs.Pay.{rewardOf}
-use Rattle.table.proofs.Sound.{sound}
+use Rattle.table.proofs.Sound.{passed}
 use borrow.Author.Needs.{needs}
 use Rattle.table.proofs.GameState.player_reward.Statement.{statement}
 use Rattle.table.proofs.GameState.player_reward.Tie as tie
@@ -15,29 +15,25 @@ mul-t8 : tie.Need-mul-t8
 mul-t8 c =
     let at-if1 = c .before in
     let at-is-sound = at-if1 .before in
-    let at-start = at-is-sound .before in
-    omega (arith, sound (at-start .args .t1) (sym (at-is-sound .is-sound .ensures) ∙ at-if1 .if1 .taken) .most)
+    omega (arith, passed (at-is-sound .before .args .t1) _ (at-is-sound .is-sound .ensures) (at-if1 .if1 .taken) .most)
 
 element-copy-out-t11 : tie.Need-element-copy-out-t11
 element-copy-out-t11 c =
     let at-if1 = c .before in
     let at-is-sound = at-if1 .before in
-    let at-start = at-is-sound .before in
-    omega (arith, sound (at-start .args .t1) (sym (at-is-sound .is-sound .ensures) ∙ at-if1 .if1 .taken) .most)
+    omega (arith, passed (at-is-sound .before .args .t1) _ (at-is-sound .is-sound .ensures) (at-if1 .if1 .taken) .most)
 
 mul-t12 : tie.Need-mul-t12
 mul-t12 c =
     let at-if1 = c .before .before in
     let at-is-sound = at-if1 .before in
-    let at-start = at-is-sound .before in
-    omega (arith, sound (at-start .args .t1) (sym (at-is-sound .is-sound .ensures) ∙ at-if1 .if1 .taken) .most)
+    omega (arith, passed (at-is-sound .before .args .t1) _ (at-is-sound .is-sound .ensures) (at-if1 .if1 .taken) .most)
 
 element-copy-out-t15 : tie.Need-element-copy-out-t15
 element-copy-out-t15 c =
     let at-if1 = c .before .before in
     let at-is-sound = at-if1 .before in
-    let at-start = at-is-sound .before in
-    omega (arith, sound (at-start .args .t1) (sym (at-is-sound .is-sound .ensures) ∙ at-if1 .if1 .taken) .most)
+    omega (arith, passed (at-is-sound .before .args .t1) _ (at-is-sound .is-sound .ensures) (at-if1 .if1 .taken) .most)
 
 returns : tie.Need-returns
 unfolding rewardOf
