@@ -1,4 +1,5 @@
 pub mod LawsLaid
+pub mod LawsParts
 pub mod LawsRead
 pub mod LawsStep
 pub mod Made

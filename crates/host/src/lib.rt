@@ -1,7 +1,10 @@
 // The boundary for C and Rust: a table is two slices of the caller's, whose places include/peatcloak.h names. Each function answers 0 or document 01's
 // number, and 19 where no table stands in the slices; a refusal writes nothing.
 mod bet;
+mod float_parts;
 mod laying;
+mod round_parts;
+mod seat_parts;
 mod standing;
 mod words;
 
