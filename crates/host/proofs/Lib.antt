@@ -1,6 +1,7 @@
 pub mod LawsAsked
 pub mod LawsBuild
 pub mod LawsLaid
+pub mod LawsParts
 pub mod LawsRead
 pub mod LawsRun
 pub mod LawsStep

@@ -13,7 +13,7 @@ use table::GameState;
 use table::TableStep;
 
 // A list laid from a place on.
-fn lay_list(floats: &mut [f32], at: usize, list: [f32; 16])
+pub fn lay_list(floats: &mut [f32], at: usize, list: [f32; 16])
     requires { ⌜ at + 16 ≤ length (now floats) ⌝ }
     ensures { λ _. ⌜ now (floats .exit) ≡ laidList at list 16 (now (floats .entry)) ⌝ }
 {

@@ -3,8 +3,11 @@
 pub mod asking;
 mod bet;
 pub mod building;
+pub mod float_parts;
 mod laying;
+pub mod round_parts;
 pub mod running;
+pub mod seat_parts;
 pub mod settling;
 mod standing;
 mod words;
