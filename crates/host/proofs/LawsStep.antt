@@ -18,8 +18,9 @@ use Rattle.table.specs.declared.GameState.{GameState}
 use Rattle.table.specs.declared.TableStep.{TableStep}
 use Rattle.table.specs.declared.BetStep.{BetStep}
 use Rattle.table.specs.Answers.{refused, done, notPaid, paid, betNumber}
-use Rattle.table.specs.Pay.{betOf}
-use Rattle.table.proofs.Bet.{bet-bad}
+use Rattle.bets.specs.declared.BetSize.the-variants as BetSize
+use Rattle.table.specs.Pay.{verdictOf, settled, paidStep, betOf}
+use Rattle.table.specs.Sound.{soundOf}
 use Rattle.table.proofs.Sound.{sound}
 use Rattle.host.specs.Places.{roomFor, wordAt, wordsFit, standsIn, soundAt, tableAt}
 use Rattle.host.specs.Laid.{laidFloats, laidNumbers, betFloats, betNumbers}
@@ -38,6 +39,20 @@ room-of fs ns e =
 -- the seat to act of a sound table is one of sixteen
 pub seat-of : (fs : List Float) (ns : List ℕ) → soundAt ns ≡ true → wordAt ns 8 < 16
 seat-of fs ns e = sound (tableAt fs ns) e .place
+
+-- the bet on a table, by its verdict
+module _ (t : GameState) (a : Float) (forced : Bool) where
+  pub bet-bad : soundOf t ≡ false → notPaid (Added BadRecord) t ≡ betOf t a forced
+  unfolding betOf
+  bet-bad s = rw s
+
+  pub bet-refused : (r : Refusal) → soundOf t ≡ true → verdictOf t a forced ≡ BetSize.Refused r → notPaid r t ≡ betOf t a forced
+  unfolding betOf settled
+  bet-refused r s v = rw (s, v)
+
+  pub bet-paid : (x : Float) → soundOf t ≡ true → verdictOf t a forced ≡ BetSize.Pays x → paidStep t x forced ≡ betOf t a forced
+  unfolding betOf settled
+  bet-paid x s v = rw (s, v)
 
 -- a step by its answer
 pub refused-as : (s : TableStep) (r : Refusal) → s .answer ≡ Refused r → s ≡ refused r (s .table)

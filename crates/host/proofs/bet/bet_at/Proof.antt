@@ -1,7 +1,6 @@
 -- `host::bet::bet_at`: the verdict, then the payment. Assumes nothing.
-use Rattle.host.proofs.LawsStep.{seat-of, same-bet, refused-bet, paid-bet}
+use Rattle.host.proofs.LawsStep.{bet-refused, bet-paid, seat-of, same-bet, refused-bet, paid-bet}
 use Rattle.host.specs.Places.{tableAt}
-use Rattle.table.proofs.Bet.{bet-refused, bet-paid}
 use mathlib.Core.Path.{_∙_, sym}
 use borrow.Author.Needs.{needs}
 use Rattle.host.proofs.bet.bet_at.Statement.{statement}
