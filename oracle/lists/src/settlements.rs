@@ -31,7 +31,7 @@ fn load(list: &mut List, table: &Table) -> io::Result<()> {
 }
 
 /// Mostly a fair table; else one with up to two things spoiled, sound or not.
-fn drawn(draw: &mut Draw) -> Table {
+pub fn drawn(draw: &mut Draw) -> Table {
     let mut table = pots::fair(draw);
     let kind = draw.below(12);
     if kind < 4 {
