@@ -18,15 +18,20 @@ pub fn telling(tally: &mut Tally) -> Result<(), Box<Difference>> {
     Ok(())
 }
 
-/// Any two; every other pair is close together.
+/// Any two, NaNs of any sign and payload among them; every other pair is close together.
 pub fn any(draw: &mut Draw, tally: &mut Tally) -> Result<(), Box<Difference>> {
-    let wide = |draw: &mut Draw| {
-        if draw.once_in(2) { amounts::pattern(draw) } else { amounts::any(draw) }
-    };
     let a = wide(draw);
     let b = if draw.once_in(2) { amounts::beside(draw, a) } else { wide(draw) };
     of_two(a, b, tally)?;
     of_one(a, tally)
+}
+
+fn wide(draw: &mut Draw) -> f32 {
+    match draw.below(4) {
+        0..=1 => f32::from_bits(draw.bits() as u32),
+        2 => f32::from_bits(draw.bits() as u32 | f32::INFINITY.to_bits()),
+        _ => amounts::any(draw),
+    }
 }
 
 fn of_two(a: f32, b: f32, tally: &mut Tally) -> Result<(), Box<Difference>> {
@@ -36,7 +41,7 @@ fn of_two(a: f32, b: f32, tally: &mut Tally) -> Result<(), Box<Difference>> {
     Ok(())
 }
 
-pub fn of_one(x: f32, tally: &mut Tally) -> Result<(), Box<Difference>> {
+fn of_one(x: f32, tally: &mut Tally) -> Result<(), Box<Difference>> {
     // A NaN has no sign here (docs/DIFFERENCES.md, D17).
     let negative = !x.is_nan() && x.is_sign_negative();
     is(sys::peatcloak_tol(x), x * f32::EPSILON * 1000.0, "tolerance", [x])?;

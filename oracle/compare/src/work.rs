@@ -14,22 +14,22 @@ type Questions = fn(&mut Draw, &mut Tally) -> Result<(), Box<Difference>>;
 
 /// What a batch asks, and how often; the batches go through these in turn.
 const BATCHES: [(Questions, usize); 16] = [
-    (seats::pair, 20_000),
-    (floats::any, 20_000),
-    (rounds::sequence, 3000),
-    (builds::any, 6000),
-    (settle::drawn, 200),
-    (scripts::any, 40),
-    (steps::any, 2000),
-    (steps::hand, 1000),
-    (steps::any, 2000),
-    (steps::hand, 1000),
-    (steps::any, 2000),
-    (steps::hand, 1000),
-    (steps::any, 2000),
-    (steps::hand, 1000),
-    (steps::any, 2000),
-    (steps::hand, 1000),
+    (seats::pair, 5000),
+    (floats::any, 10_000),
+    (rounds::sequence, 1500),
+    (builds::any, 1500),
+    (settle::drawn, 60),
+    (scripts::any, 12),
+    (steps::any, 4000),
+    (steps::hand, 2000),
+    (steps::any, 4000),
+    (steps::hand, 2000),
+    (steps::any, 4000),
+    (steps::hand, 2000),
+    (steps::any, 4000),
+    (steps::hand, 2000),
+    (steps::any, 4000),
+    (steps::hand, 2000),
 ];
 
 /// What all threads share.

@@ -1,4 +1,4 @@
-//! What the tests share: a table of ours beside the oracle's words.
+//! A table of ours beside the oracle's words.
 
 use lists::table::Table;
 use peatcloak::arena::GameState;
