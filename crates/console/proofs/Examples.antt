@@ -10,10 +10,10 @@ use Rattle.amounts.specs.Amounts.{sumOf, aboveOf, anyInvalid}
 use Rattle.seats.specs.Bits.{has, upTo, with, seatsWhere}
 use Rattle.seats.specs.First.{firstFrom}
 use Rattle.rounds.specs.Walk.{distance, walkOf}
-use Rattle.table.specs.Build.{smallBlindOf, dataFor, builtOf, amountsFault, listsFault, buildOf}
-use Rattle.table.specs.Cards.{cardsFrom}
 use Rattle.table.specs.Rounds.{firstTurn, advanceOf, completeOf}
 use Rattle.table.specs.Sound.{cardsOk, boardOk, soundParts}
+use Rattle.builder.specs.Build.{smallBlindOf, dataFor, builtOf, amountsFault, listsFault, buildOf}
+use Rattle.builder.specs.Cards.{cardsFrom}
 use Rattle.script.specs.declared.print.Amount.{Amount}
 use Rattle.script.specs.declared.print.Amount.the-variants.{Whole, NotWhole}
 use Rattle.script.specs.Ascii.{bytes}

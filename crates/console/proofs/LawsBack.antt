@@ -8,9 +8,9 @@ use mathlib.Core.List.{List}
 use lib.Dec.{eqb}
 use lib.ListN.{take}
 use Rattle.table.specs.declared.GameState.{GameState}
-use Rattle.table.specs.declared.builder.BuildAnswer.{BuildAnswer}
-use Rattle.table.specs.declared.builder.BuildAnswer.the-variants.{Built, NotBuilt}
 use Rattle.table.proofs.LawsBack.{pick, bet-back, fold-back, advance-back, complete-back}
+use Rattle.builder.specs.declared.BuildAnswer.{BuildAnswer}
+use Rattle.builder.specs.declared.BuildAnswer.the-variants.{Built, NotBuilt}
 use Rattle.settlement.specs.Settlement.{settledOf}
 use Rattle.settlement.proofs.Accepted.{refusal-keeps}
 use Rattle.script.specs.declared.line.Words.{Words}

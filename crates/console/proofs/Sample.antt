@@ -11,11 +11,11 @@ use Rattle.bets.specs.Bet.{sized, betSize, sizeFor}
 use Rattle.seats.specs.Bits.{has, upTo, with, without, countTo, seatsWhere}
 use Rattle.seats.specs.First.{firstFrom}
 use Rattle.rounds.specs.Walk.{distance, walkOf}
-use Rattle.table.specs.Build.{smallBlindOf, dataFor, builtOf, amountsFault, listsFault, buildOf}
-use Rattle.table.specs.Cards.{cardsFrom}
 use Rattle.table.specs.Pay.{owingAfter, roomFor, settled, betOf, foldOf}
 use Rattle.table.specs.Rounds.{firstTurn, advanceOf}
 use Rattle.table.specs.Sound.{cardsOk, boardOk, soundParts}
+use Rattle.builder.specs.Build.{smallBlindOf, dataFor, builtOf, amountsFault, listsFault, buildOf}
+use Rattle.builder.specs.Cards.{cardsFrom}
 use Rattle.chips.specs.Sums.{sumTo, allTo}
 use Rattle.chips.specs.Whole.{isWhole, chipsIn, allWhole, sumChips}
 use Rattle.layers.specs.Folds.{mostTo, anyTo}

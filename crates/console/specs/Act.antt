@@ -11,12 +11,12 @@ use Rattle.rounds.specs.Steps.{numberOf}
 use Rattle.table.specs.declared.GameState.{GameState}
 use Rattle.table.specs.declared.TableStep.{TableStep}
 use Rattle.table.specs.declared.BetStep.{BetStep}
-use Rattle.table.specs.declared.builder.BuildAnswer.{BuildAnswer}
-use Rattle.table.specs.declared.builder.BuildAnswer.the-variants.{Built, NotBuilt}
-use Rattle.table.specs.declared.builder.BuildStep.{BuildStep}
 use Rattle.table.specs.Answers.{betNumber}
 use Rattle.table.specs.Pay.{betOf, foldOf}
 use Rattle.table.specs.Rounds.{advanceOf, completeOf}
+use Rattle.builder.specs.declared.BuildAnswer.{BuildAnswer}
+use Rattle.builder.specs.declared.BuildAnswer.the-variants.{Built, NotBuilt}
+use Rattle.builder.specs.declared.BuildStep.{BuildStep}
 use Rattle.settlement.specs.declared.Settled.{Settled}
 use Rattle.settlement.specs.Settlement.{settledOf, settleNumber}
 use Rattle.script.specs.declared.line.Words.{Words}

@@ -9,11 +9,12 @@ use lib.ListN.{getD, take, drop}
 use lib.Ieee.{Float, binary32, ofInt}
 use Rattle.refusals.specs.declared.Refusal.the-variants.{Build}
 use Rattle.refusals.specs.declared.GameStateBuilderError.the-variants.{InvalidPlayerCount}
-use Rattle.table.specs.declared.builder.GameStateBuilder.{GameStateBuilder}
-use Rattle.table.specs.declared.builder.BuildAnswer.the-variants.{NotBuilt}
-use Rattle.table.specs.declared.builder.BuildStep.{BuildStep}
-use Rattle.table.specs.Build.{buildOf, noTable}
-use Rattle.table.specs.Setters.{theAmount, theAmounts, theNumber, nothing, withStacks, withBigBlind, withSmallBlind, withAnte, withDealer}
+use Rattle.table.specs.With.{noTable}
+use Rattle.builder.specs.declared.GameStateBuilder.{GameStateBuilder}
+use Rattle.builder.specs.declared.BuildAnswer.the-variants.{NotBuilt}
+use Rattle.builder.specs.declared.BuildStep.{BuildStep}
+use Rattle.builder.specs.Build.{buildOf}
+use Rattle.builder.specs.Setters.{theAmount, theAmounts, theNumber, nothing, withStacks, withBigBlind, withSmallBlind, withAnte, withDealer}
 
 -- a number of the script as an amount
 abbrev pub chipsOf : ℕ → Float

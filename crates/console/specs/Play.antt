@@ -7,7 +7,7 @@ use lib.Dec.{ltb, leb}
 use lib.ListN.{length}
 use Rattle.refusals.specs.declared.AddedError.the-variants.{ScriptTooLong}
 use Rattle.refusals.specs.Number.{addedNumber}
-use Rattle.table.specs.Build.{noTable}
+use Rattle.table.specs.With.{noTable}
 use Rattle.script.specs.declared.line.Words.{Words}
 use Rattle.script.specs.declared.print.View.the-variants.{NoTable}
 use Rattle.script.specs.Split.{lines}

@@ -5,6 +5,8 @@ ghost use Rattle.table.specs.Answers.{betNumber};
 ghost use Rattle.settlement.specs.Settlement.{settleNumber};
 ghost use Rattle.console.specs.Act.{badLine, needing, stepped, wagered, ranked, opened, actOf};
 use crate::opening;
+use builder::BuildAnswer;
+use builder::BuildStep;
 use refusals::AddedError;
 use rounds::StepAnswer;
 use script::line;
@@ -15,8 +17,6 @@ use table::BetAnswer;
 use table::BetStep;
 use table::GameState;
 use table::TableStep;
-use table::builder::BuildAnswer;
-use table::builder::BuildStep;
 
 // What stands between two lines: no table, or a table.
 pub struct State {

@@ -2,12 +2,12 @@
 ghost use mathlib.Core.Path.{_≡_};
 ghost use lib.ListN.{take};
 ghost use Rattle.console.specs.Opening.{amountsFrom, openingOf};
+use builder::BuildAnswer;
+use builder::BuildStep;
+use builder::GameStateBuilder;
 use refusals::GameStateBuilderError;
 use refusals::Refusal;
 use table::GameState;
-use table::builder::BuildAnswer;
-use table::builder::BuildStep;
-use table::builder::GameStateBuilder;
 
 // The sixteen numbers after the first four, as amounts.
 fn amounts_from(numbers: [u16; 20]) -> [f32; 16]

@@ -7,10 +7,10 @@ use crate::reading;
 use crate::reading::NOWHERE;
 use crate::table_words;
 use crate::words;
+use builder::BuildAnswer;
+use builder::BuildStep;
+use builder::GameStateBuilder;
 use rounds::RoundData;
-use table::builder::BuildAnswer;
-use table::builder::BuildStep;
-use table::builder::GameStateBuilder;
 
 // Whether a field is given, and the place after its letter or its dash.
 struct Given {

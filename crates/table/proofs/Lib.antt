@@ -1,5 +1,4 @@
 pub mod Bet
-pub mod Building
 pub mod Hands
 pub mod LawsBack
 pub mod LawsOrder

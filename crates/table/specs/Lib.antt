@@ -1,11 +1,7 @@
 pub mod Answers
-pub mod Build
-pub mod Cards
 pub mod Choice
-pub mod Given
 pub mod Pay
 pub mod Queries
 pub mod Rounds
-pub mod Setters
 pub mod Sound
 pub mod With

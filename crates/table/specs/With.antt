@@ -1,11 +1,16 @@
 -- The record made, and with some fields changed. `tableOf` alone lists the fields; `changed` has those that some step moves. Definitions only.
 use Prim.Native.Nat.{ℕ}
-use mathlib.Core.Bool.{Bool}
+use mathlib.Core.Bool.{Bool, false}
 use mathlib.Core.List.{List}
+use lib.ListN.{replicate}
 use lib.Ieee.{Float}
+use Rattle.floats.specs.Helpers.{zerof}
+use Rattle.amounts.specs.Amounts.{zeros}
 use Rattle.seats.specs.Set.{ofBits}
 use Rattle.rounds.specs.declared.Round.{Round}
+use Rattle.rounds.specs.declared.Round.the-variants.{Starting}
 use Rattle.rounds.specs.declared.RoundData.{RoundData}
+use Rattle.rounds.specs.Steps.{noData}
 use Rattle.table.specs.declared.GameState.{GameState}
 
 abbrev pub tableOf : ℕ → ℕ → ℕ → Float → List Float → List Float → List Float → List Float → Float → Float → Float → ℕ → Round → Round → RoundData → List ℕ → ℕ → Bool → Bool → Bool → ℕ → GameState
@@ -32,6 +37,10 @@ tableOf n active allIn pot stacks starting bets winnings big small ante dealer n
   «has_max_raises» = capped;
   «max_raises_per_round» = cap;
 }
+
+-- a refused build gives zeros
+abbrev pub noTable : GameState
+noTable = tableOf 0 0 0 zerof zeros zeros zeros zeros zerof zerof zerof 0 Starting Starting noData (replicate 5 0) 0 false false false 0
 
 -- with the fields changed that some step moves
 abbrev pub changed : GameState → ℕ → ℕ → Float → List Float → List Float → List Float → Round → Round → RoundData → GameState

@@ -1,18 +1,15 @@
-// The second half of text 000: the record, by value, with its steps and queries; the builder and the choice stand in files of their own.
-pub mod builder;
-mod checks;
-mod parts;
-mod soundness;
+// The second half of text 000: the record, by value, with its steps and queries; and the choice. The builder is a crate of its own.
+pub mod parts;
+pub mod soundness;
 
 ghost use mathlib.Core.Path.{_≡_};
 ghost use Rattle.seats.specs.Bits.{countTo};
-ghost use Rattle.table.specs.Build.{noTable};
 ghost use Rattle.table.specs.Choice.{choiceOf, payingNothing};
 ghost use Rattle.table.specs.Pay.{betOf, foldOf, awardOf, rewardOf};
 ghost use Rattle.table.specs.Queries.{isCapped, isComplete, atSeat, roundBetAt};
 ghost use Rattle.table.specs.Rounds.{advanceOf, advancedStep, completeOf, completedStep, freshData, isRound};
 ghost use Rattle.table.specs.Sound.{soundOf};
-ghost use Rattle.table.specs.With.{withRound};
+ghost use Rattle.table.specs.With.{noTable, withRound};
 use bets::BetSize;
 use refusals::AddedError;
 use refusals::Refusal;

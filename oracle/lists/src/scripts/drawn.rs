@@ -15,25 +15,29 @@ pub fn case(draw: &mut Draw, number: u64) -> Case {
     for _ in 0..draw.pick(&[1, 1, 1, 2]) {
         hand(draw, &mut script);
     }
-    let lf = if draw.once_in(10) { "" } else { "\n" };
-    Case::new(format!("drawn {number}"), script.lines.join("\n") + lf)
+    let mut bytes = script.lines.join(&b'\n');
+    if !draw.once_in(10) {
+        bytes.push(b'\n');
+    }
+    Case::new(format!("drawn {number}"), bytes)
 }
 
 /// The lines so far, and the table that they lead to.
 #[derive(Default)]
 struct Script {
-    lines: Vec<String>,
+    lines: Vec<Vec<u8>>,
     player: Player,
 }
 
 impl Script {
-    fn add(&mut self, line: String) {
-        self.player.play_line(line.as_bytes());
+    fn add(&mut self, line: impl Into<Vec<u8>>) {
+        let line = line.into();
+        self.player.play_line(&line);
         self.lines.push(line);
     }
 
     fn add_all(&mut self, lines: &str) {
-        lines.lines().for_each(|line| self.add(line.to_string()));
+        lines.lines().for_each(|line| self.add(line));
     }
 }
 
@@ -52,6 +56,9 @@ fn hand(draw: &mut Draw, script: &mut Script) {
             break;
         }
         let line = in_turn(draw, state);
+        if draw.once_in(24) {
+            script.add(garbled(draw, &line));
+        }
         script.add(line);
     }
     end(draw, script);
@@ -61,13 +68,13 @@ fn end(draw: &mut Draw, script: &mut Script) {
     let state = script.player.table.as_ref().expect("the table above is built");
     let seats = state.num_players;
     if draw.once_in(2) {
-        script.add("x".to_string());
+        script.add("x");
     }
     script.add(ranks(draw, seats));
     if draw.once_in(4) {
         script.add(ranks(draw, seats));
     }
-    script.add_all("x\n");
+    script.add("x");
     script.add_all(&pots::shown(seats));
 }
 
@@ -167,6 +174,20 @@ fn stray(draw: &mut Draw) -> String {
         "n\r",
     ];
     draw.pick(&lines).to_string()
+}
+
+/// The line with one byte dropped, doubled, put in or replaced. It may still be of the form.
+fn garbled(draw: &mut Draw, line: &str) -> Vec<u8> {
+    let mut bytes = line.as_bytes().to_vec();
+    let at = draw.below(bytes.len());
+    let other = draw.pick(b" 0123456789tnfbpxw-+\t\r\0\xff");
+    match draw.below(4) {
+        0 => drop(bytes.remove(at)),
+        1 => bytes.insert(at, bytes[at]),
+        2 => bytes.insert(at, other),
+        _ => bytes[at] = other,
+    }
+    bytes
 }
 
 /// Ranks of few kinds, so that some are equal.

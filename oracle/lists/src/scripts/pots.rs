@@ -221,7 +221,7 @@ const HANDS: &[Hand] = &[
         ranks: &[1, 2, 3, 4, 5, 6, 7, 8, 9, 10, 11, 12, 13, 14, 15, 16],
     },
     Hand {
-        what: "sixteen seats share one pot with fifteen odd chips",
+        what: "sixteen seats, three of them share 160 chips",
         bets: &[10, 10, 10, 10, 10, 10, 10, 10, 10, 10, 10, 10, 10, 10, 10, 10],
         spare: &[0; 16],
         folded: &[],
@@ -270,7 +270,7 @@ const HANDS: &[Hand] = &[
         ranks: &[1; 16],
     },
     Hand {
-        what: "sixteen stacks of 500",
+        what: "sixteen stacks of 500, eleven winners, nine odd chips",
         bets: &[499; 16],
         spare: &[1; 16],
         folded: &[],

@@ -1,0 +1,16 @@
+-- `builder::GameStateBuilder::small_blind_or_half`: the code's 2.0 is the definition's. Assumes nothing.
+use lib.Ieee.{ofBits}
+use Rattle.builder.specs.Build.{smallBlindOf}
+use borrow.Author.Needs.{needs}
+use Rattle.builder.proofs.GameStateBuilder.small_blind_or_half.Statement.{statement}
+use Rattle.builder.proofs.GameStateBuilder.small_blind_or_half.Tie as tie
+
+amount-or-requires : tie.Need-amount-or-requires
+amount-or-requires c κs = search needs
+
+returns : tie.Need-returns
+unfolding smallBlindOf ofBits
+returns c = rw (c .amount-or .ensures)
+
+pub small-blind-or-half-spec : {M : Type 1} → statement M
+small-blind-or-half-spec = tie.close (tie.spec amount-or-requires returns)

@@ -1,0 +1,4 @@
+pub mod Build
+pub mod Cards
+pub mod Given
+pub mod Setters

@@ -1,0 +1,5 @@
+pub mod LawsLaid
+pub mod LawsRead
+pub mod LawsStep
+pub mod Made
+pub mod Rounds

@@ -1,0 +1,29 @@
+-- `scripts::decoding::decode` is safe and ends: the runs left fall. Assumes nothing.
+use Prim.Native.Nat.{_-_}
+use mathlib.Core.Path.{_≡_}
+use lib.ListN.{length}
+use borrow.Author.Needs.{needs}
+use Rattle.scripts.proofs.decoding.decode.Statement.{statement}
+use Rattle.scripts.proofs.decoding.decode.Tie as tie
+
+abbrev Inv-loop : tie.InvT-loop
+Inv-loop text from out₀ to laid₀ counter₀ end out laid counter = length out ≡ length out₀
+
+abbrev μ-loop : tie.MeasureT-loop
+μ-loop text from out₀ to laid₀ counter₀ end out laid counter = end - counter
+
+pub decode-spec : {M : Type 1} → statement M
+decode-spec =
+    tie.close
+    (tie.spec
+    Inv-loop
+    μ-loop
+    (search needs)
+    (search needs)
+    (search needs)
+    (search needs)
+    (search needs)
+    (search needs)
+    (search needs)
+    (search needs)
+    (search needs))
