@@ -28,35 +28,18 @@ impl Difference {
 
     /// A step on a table, both made as small as they come with a difference still there.
     pub fn of_step(table: &Table, step: &Step) -> Box<Self> {
-        let differs = |table: &Table, step: &Step| {
-            let mut tally = Tally::default();
-            // The difference itself is not told here, so that this ends.
-            shrinking(|| Pair::load(table).take(step, &mut tally).is_err())
-        };
-        if is_shrinking() || !differs(table, step) {
-            let told = format!("{}\n{}", shown(table), step.written().text());
-            return Difference::new(told + "\n(the step alone shows no difference)");
-        }
-        let (table, step) = shrink::step(table, step, differs);
+        let differs =
+            |table: &Table, step: &Step| !Pair::load(table).is_same(step, &mut Tally::default());
+        let shows = differs(table, step);
+        let (table, step) =
+            if shows { shrink::step(table, step, differs) } else { (table.clone(), *step) };
         let mut told = format!("table {}\nstep  {}\n", shown(&table), step.written().text());
         tell(&mut told, &table, &step);
+        if !shows {
+            told += "the step alone shows no difference: an earlier one left it behind\n";
+        }
         Difference::new(told)
     }
-}
-
-thread_local! {
-    static SHRINKING: std::cell::Cell<bool> = const { std::cell::Cell::new(false) };
-}
-
-fn is_shrinking() -> bool {
-    SHRINKING.get()
-}
-
-fn shrinking<T>(run: impl FnOnce() -> T) -> T {
-    SHRINKING.set(true);
-    let result = run();
-    SHRINKING.set(false);
-    result
 }
 
 /// The words that are not 0, as the oracle's lists show them.

@@ -1,7 +1,7 @@
 //! A record on both sides, and steps taken on both in place.
 
 use lists::carry;
-use lists::refusals::BAD_RECORD;
+use lists::refusals::{BAD_RECORD, BAD_SEAT};
 use lists::sound;
 use lists::step::Step;
 use lists::table::{Table, place};
@@ -26,30 +26,31 @@ impl Pair {
         Pair { ours: table.clone(), theirs, before: Table::ZEROS }
     }
 
-    /// The step on both sides, counted; what differs, if anything does.
+    /// The step on both sides, counted; where they differ, that made small.
     pub fn take(&mut self, step: &Step, tally: &mut Tally) -> Result<(), Box<Difference>> {
-        match *step {
-            Step::Query(seat) => {
-                tally.count(Kind::Queries, 0);
-                let same = self.same_queries(seat);
-                same.then_some(()).ok_or_else(|| Difference::of_step(&self.ours, step))
-            }
-            Step::Reward(seat) => {
-                let (refused, same) = self.same_reward(seat);
-                tally.count(Kind::Reward, refused);
-                same.then_some(()).ok_or_else(|| Difference::of_step(&self.ours, step))
-            }
-            _ => {
-                self.before.clone_from(&self.ours);
-                let (expected, same) = self.same_step(step);
-                tally.count(kind(step), expected.refused);
-                same.then_some(()).ok_or_else(|| Difference::of_step(&self.before, step))
-            }
+        if self.is_same(step, tally) {
+            return Ok(());
         }
+        let asks = matches!(step, Step::Query(_) | Step::Reward(_));
+        Err(Difference::of_step(if asks { &self.ours } else { &self.before }, step))
     }
 
-    /// What the Rust answers, and whether ours is the same with the same table after it.
-    fn same_step(&mut self, step: &Step) -> (Answer, bool) {
+    /// Whether both sides answer the same, and have the same table after it.
+    pub fn is_same(&mut self, step: &Step, tally: &mut Tally) -> bool {
+        let (refused, is_same) = match *step {
+            Step::Query(seat) => (0, self.same_queries(seat)),
+            Step::Reward(seat) => self.same_reward(seat),
+            _ => {
+                self.before.clone_from(&self.ours);
+                self.same_step(step)
+            }
+        };
+        tally.count(kind(step), refused);
+        is_same
+    }
+
+    /// What the step is refused with, 0 where it is taken, and whether ours is the same.
+    fn same_step(&mut self, step: &Step) -> (u32, bool) {
         let call = self.ours.float(place::ROUND_BET);
         let expected = match &mut self.theirs {
             None => Answer { refused: BAD_RECORD, ..Answer::default() },
@@ -57,17 +58,17 @@ impl Pair {
         };
         let refused = ours(&mut self.ours, step, call);
         if refused != expected.refused {
-            return (expected, false);
+            return (expected.refused, false);
         }
         if refused != 0 {
-            return (expected, self.ours.words == self.before.words);
+            return (refused, self.ours.words == self.before.words);
         }
         let state = self.theirs.as_ref().expect("an accepted step is on a sound record");
         let same = same::float(self.ours.float(PAID), expected.paid)
             && self.ours.get(PASSED) == expected.passed
             && same::record(&self.ours, state)
             && same::untouched(&self.before, &self.ours);
-        (expected, same)
+        (0, same)
     }
 
     /// On a record that is not sound only that is asked.
@@ -102,9 +103,7 @@ impl Pair {
         let (refused, reward) = boundary::player_reward(&self.ours, seat);
         match &self.theirs {
             None => (BAD_RECORD, refused == BAD_RECORD),
-            Some(state) if seat >= state.num_players => {
-                (lists::refusals::BAD_SEAT, refused == lists::refusals::BAD_SEAT)
-            }
+            Some(state) if seat >= state.num_players => (BAD_SEAT, refused == BAD_SEAT),
             Some(state) => (0, refused == 0 && same::float(reward, state.player_reward(seat))),
         }
     }

@@ -85,3 +85,29 @@ pub fn untouched(before: &Table, after: &Table) -> bool {
         && before.words[place::CAP] == after.words[place::CAP]
         && before.words[place::STACKS - 1] == after.words[place::STACKS - 1]
 }
+
+#[cfg(test)]
+mod tests {
+    use lists::carry;
+    use lists::draw::Draw;
+    use lists::table::{Table, WORDS};
+
+    use super::{record, untouched};
+    use crate::boundary::{PAID, PASSED};
+
+    /// A bit of any word but the two answers, which are compared by themselves, is seen.
+    #[test]
+    fn every_word_is_looked_at() {
+        let mut draw = Draw::new(1);
+        for _ in 0..200 {
+            let before: Table = lists::tables::half_played(&mut draw);
+            let state = carry::game_state(&before);
+            assert!(record(&before, &state) && untouched(&before, &before));
+            for at in (0..WORDS).filter(|at| ![PAID, PASSED].contains(at)) {
+                let mut after = before.clone();
+                after.words[at] ^= 1;
+                assert!(!record(&after, &state) || !untouched(&before, &after), "word {at}");
+            }
+        }
+    }
+}

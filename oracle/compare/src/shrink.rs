@@ -65,3 +65,25 @@ fn plain_step(step: &Step) -> Vec<Step> {
     let tries = PLAIN.into_iter().chain([amount.trunc()]).take(at_hand.unwrap_or(usize::MAX));
     tries.filter(|plain| plain.to_bits() != amount.to_bits()).map(with).collect()
 }
+
+#[cfg(test)]
+mod tests {
+    use lists::draw::Draw;
+    use lists::step::Step;
+    use lists::table::{Table, place};
+
+    /// Of all that a drawn table has, only what the difference needs is left.
+    #[test]
+    fn what_has_no_part_in_it_goes() {
+        let table = lists::tables::half_played(&mut Draw::new(7));
+        let differs = |table: &Table, step: &Step| {
+            let asked = matches!(step, Step::Bet(amount) if *amount >= 50.0);
+            asked && table.get(place::NUM_PLAYERS) >= 2 && table.float(place::STACKS) >= 0.0
+        };
+        let (table, step) = super::step(&table, &Step::Bet(777.7), differs);
+        let mut least = Table::ZEROS;
+        least.set(place::NUM_PLAYERS, 2);
+        assert!(table.words == least.words);
+        assert!(matches!(step, Step::Bet(100.0)));
+    }
+}

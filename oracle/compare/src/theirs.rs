@@ -87,3 +87,15 @@ fn advance(state: &mut GameState) -> Answer {
     let second = distance(once.to_act_idx, state.to_act_idx(), 2);
     Answer { passed: first + second, ..Answer::default() }
 }
+
+#[cfg(test)]
+mod tests {
+    use super::distance;
+
+    #[test]
+    fn the_way_back_to_the_start_is_a_whole_round() {
+        assert_eq!(distance(5, 0, 6), 1);
+        assert_eq!(distance(5, 5, 6), 6);
+        assert_eq!(distance(0, 4, 6), 4);
+    }
+}

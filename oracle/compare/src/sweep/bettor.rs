@@ -131,3 +131,21 @@ impl Bettor {
         data.forced_bet_count = kept.forced_bet_count;
     }
 }
+
+#[cfg(test)]
+mod tests {
+    use super::Bettor;
+    use crate::sweep::tables::TABLES;
+
+    /// With another smallest raise on the Rust's side the first amount on which it bears is found.
+    #[test]
+    fn a_difference_is_found_where_it_is() {
+        let mut bettor = Bettor::at(&TABLES[0].table(), false);
+        let (from, raise) = (19.0_f32.to_bits(), 20.0_f32.to_bits());
+        assert_eq!(bettor.bet_all(from..=raise), None);
+        bettor.kept.round_data.min_raise = 10.5;
+        bettor.put_back();
+        let found = bettor.bet_all(from..=raise).expect("a raise by 10 is too small there");
+        assert!((19.5..20.0).contains(&f32::from_bits(found)));
+    }
+}
