@@ -155,18 +155,21 @@ fn rest(after: &Table, before: &Table, length: usize) -> bool {
     (0..after.words.len()).filter(|at| !own(at)).all(|at| after.words[at] == before.words[at])
 }
 
+/// Only current_player_bet refuses; the other two are told by the words on unsound data too.
 fn same_queries(table: &Table, expected: Result<RoundData, u32>) -> bool {
     let (refused, bet, [need, unopened, bet_refused]) = boundary::round_queries(table);
-    refused == 0
-        && match expected {
-            Err(number) => bet_refused == number && bet == 0.0,
-            Ok(data) => {
-                bet_refused == 0
-                    && same::float(bet, data.current_player_bet())
-                    && need as usize == data.num_players_need_action()
-                    && unopened == data.is_action_unopened().into()
-            }
+    let owing = carry::set_of(table.seats(place::NEEDS_ACTION));
+    let forced_only = table.get(place::TOTAL_BET_COUNT) == table.get(place::FORCED_BET_COUNT);
+    let same_bet = match expected {
+        Err(number) => bet_refused == number && bet == 0.0,
+        Ok(data) => {
+            bet_refused == 0
+                && same::float(bet, data.current_player_bet())
+                && owing.count() == data.num_players_need_action()
+                && forced_only == data.is_action_unopened()
         }
+    };
+    refused == 0 && same_bet && need as usize == owing.count() && unopened == forced_only.into()
 }
 
 fn told(table: &Table, ask: &Ask) -> Box<Difference> {

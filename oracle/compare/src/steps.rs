@@ -53,16 +53,23 @@ fn with_tails(draw: &mut Draw, mut table: Table) -> Table {
     table
 }
 
-/// A hand from its start to its end, and now and then its settlement.
+/// A hand from its start to its end, and some steps after it; now and then it is settled at its end.
 pub fn hand(draw: &mut Draw, tally: &mut Tally) -> Result<(), Box<Difference>> {
     let table = tables::new_game(draw);
     let mut pair = Pair::load(&table);
-    let mut left = draw.within(40, 250);
-    while left > 0 {
+    let mut is_over = false;
+    for _ in 0..draw.within(40, 250) {
         let step = play::in_turn(draw, &pair.ours);
         pair.take(&step, tally)?;
-        let is_over = play::is_over(&pair.ours);
-        left = if is_over && draw.once_in(4) { 0 } else { left - 1 };
+        if !is_over && play::is_over(&pair.ours) {
+            is_over = true;
+            if draw.once_in(16) {
+                settle::once(draw, &pair.ours, tally)?;
+            }
+        }
+        if is_over && draw.once_in(4) {
+            break;
+        }
     }
-    if draw.once_in(16) { settle::once(draw, &pair.ours, tally) } else { Ok(()) }
+    Ok(())
 }
