@@ -2,6 +2,8 @@
 //!
 //! Change `use rs_poker::` to `use peatcloak::`. README.md tells what else is different.
 
+#![warn(missing_docs)]
+
 pub mod arena;
 pub mod core;
 pub mod script;

@@ -2,6 +2,7 @@
 
 pub const FLOATS: usize = 88;
 pub const NUMBERS: usize = 24;
+/// A table has at most so many seats.
 pub const MAX_PLAYERS: usize = 16;
 
 /// Places of the numbers.

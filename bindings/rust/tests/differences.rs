@@ -269,7 +269,8 @@ fn d27_steps_on_unsound_records_that_the_rust_takes() {
 
 #[test]
 fn d27_bets_on_unsound_records_that_the_rust_takes() {
-    let changes: [(fn(&mut GameState), usize, u32); 3] = [
+    type Change = fn(&mut GameState);
+    let changes: [(Change, usize, u32); 3] = [
         (|state| state.round_data.player_bet.push(0.0), 9, 3),
         (|state| state.player_all_in = set(0b100), 5, 0b100),
         (|state| state.board = (0..6).map(Card::from).collect(), 17, 6),

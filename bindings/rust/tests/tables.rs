@@ -168,9 +168,8 @@ fn settlements_answer_as_dealt_chip_by_chip() {
             Ok(after) => {
                 let rewards = state.settle(&sixteen).expect("a fair table");
                 assert_same(&state, &after, "settled");
-                for seat in 0..ranks.len() {
-                    let by_chips = state.stacks()[seat] - state.starting_stacks()[seat];
-                    assert_eq!(rewards[seat] as f32, by_chips);
+                for (seat, reward) in rewards.into_iter().take(ranks.len()).enumerate() {
+                    assert_eq!(Ok(reward as f32), state.player_reward(seat));
                 }
             }
             Err(number) => assert_eq!(state.settle(&sixteen).unwrap_err().number(), number),

@@ -3,18 +3,30 @@
 /// The round of the game.
 #[derive(Copy, Clone, Debug, PartialEq, Eq, Hash, Default)]
 pub enum Round {
+    /// Before the hand.
     #[default]
     Starting,
+    /// The antes are put in.
     Ante,
+    /// Each seat gets its cards.
     DealPreflop,
+    /// The first bets, after the blinds.
     Preflop,
+    /// Three cards on the board.
     DealFlop,
+    /// The second bets.
     Flop,
+    /// The fourth card.
     DealTurn,
+    /// The third bets.
     Turn,
+    /// The fifth card.
     DealRiver,
+    /// The last bets.
     River,
+    /// Hands are shown.
     Showdown,
+    /// The hand is over.
     Complete,
 }
 
