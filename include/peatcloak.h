@@ -135,7 +135,8 @@ uint32_t peatcloak_settle(float *floats, size_t floats_len, uint32_t *numbers, s
  * answers the bytes written. */
 size_t peatcloak_play(const uint8_t *script, size_t script_len, uint8_t *out, size_t out_len);
 
-/* The amounts one after another as voluntary bets, by value inside; the place PASSED is how many were accepted. */
+/* The amounts one after another as voluntary bets, by value inside; the place PASSED is how many were accepted, and on
+ * a table that is not sound that is none. */
 uint32_t peatcloak_run_bets(float *floats, size_t floats_len, uint32_t *numbers, size_t numbers_len,
                             const float *amounts, size_t amounts_len);
 

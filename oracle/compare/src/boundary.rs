@@ -75,6 +75,10 @@ pub fn settle(table: &mut Table, ranks: &[u16; MAX_SEATS]) -> (u32, [i32; MAX_SE
     (refused, rewards)
 }
 
+pub fn run_bets(table: &mut Table, amounts: &[f32]) -> u32 {
+    call!(peatcloak_run_bets, table, amounts.as_ptr(), amounts.len())
+}
+
 /// What a builder is given, as the boundary takes it.
 pub struct Given<'a> {
     pub stacks: &'a [f32],

@@ -7,6 +7,7 @@ mod floats;
 mod options;
 mod pair;
 mod rounds;
+mod runs;
 mod same;
 mod scripts;
 mod seats;

@@ -25,10 +25,11 @@ pub enum Kind {
     Reward,
     Queries,
     Settle,
+    Run,
     Script,
 }
 
-const NAMES: [&str; 19] = [
+const NAMES: [&str; 20] = [
     "seat sets",
     "float helpers",
     "round data made",
@@ -47,6 +48,7 @@ const NAMES: [&str; 19] = [
     "player_reward",
     "queries",
     "settlements",
+    "bets in a run",
     "script lines",
 ];
 

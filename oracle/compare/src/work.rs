@@ -8,7 +8,7 @@ use lists::draw::Draw;
 
 use crate::difference::Difference;
 use crate::tally::{Tally, grouped};
-use crate::{builds, floats, rounds, scripts, seats, settle, steps};
+use crate::{builds, floats, rounds, runs, scripts, seats, settle, steps};
 
 type Questions = fn(&mut Draw, &mut Tally) -> Result<(), Box<Difference>>;
 
@@ -20,7 +20,7 @@ const BATCHES: [(Questions, usize); 16] = [
     (builds::any, 1500),
     (settle::drawn, 60),
     (scripts::any, 12),
-    (steps::any, 4000),
+    (runs::any, 4000),
     (steps::hand, 2000),
     (steps::any, 4000),
     (steps::hand, 2000),
