@@ -1,6 +1,8 @@
 //! Carries tables to the Rust's types and back. Only sound tables are carried to
 //! the Rust, so every length here fits.
 
+use std::hash::{Hash, Hasher};
+
 use rs_poker::arena::{GameState, PlayerVec, Round, RoundData};
 use rs_poker::core::{Card, Hand, PlayerBitSet};
 
@@ -32,8 +34,27 @@ pub fn set_of(bits: u16) -> PlayerBitSet {
     set
 }
 
+/// They are shown only to a hasher, which keeps them.
 pub fn bits_of(set: PlayerBitSet) -> u16 {
-    (0..MAX_SEATS).fold(0, |bits, seat| bits | (set.get(seat) as u16) << seat)
+    let mut kept = Kept(0);
+    set.hash(&mut kept);
+    kept.0
+}
+
+struct Kept(u16);
+
+impl Hasher for Kept {
+    fn write(&mut self, _: &[u8]) {
+        unreachable!("a set is hashed as one u16");
+    }
+
+    fn write_u16(&mut self, bits: u16) {
+        self.0 = bits;
+    }
+
+    fn finish(&self) -> u64 {
+        self.0.into()
+    }
 }
 
 pub fn round_data(table: &Table) -> RoundData {

@@ -14,13 +14,21 @@ use crate::tables;
 /// Rounding moves a line by a few units in the last place.
 const UNITS: usize = 4;
 
-pub fn write(list: &mut List, draw: &mut Draw) -> io::Result<()> {
+/// Amounts that are tried, one unit apart.
+pub const TRIES: usize = 2 * UNITS + 1;
+
+/// A table, and the first amount to be tried.
+pub fn drawn(draw: &mut Draw) -> (Table, f32) {
     let edge = Edge::draw(draw);
-    let mut table = edge.table(draw);
+    let table = edge.table(draw);
+    (table, (0..UNITS).fold(edge.line, |amount, _| amount.next_down()))
+}
+
+pub fn write(list: &mut List, draw: &mut Draw) -> io::Result<()> {
+    let (mut table, mut amount) = drawn(draw);
     list.put(Line::new('T').new_table(&table))?;
-    let mut amount = (0..UNITS).fold(edge.line, |amount, _| amount.next_down());
     let bets = table.get(place::TOTAL_BET_COUNT);
-    for _ in 0..=2 * UNITS {
+    for _ in 0..TRIES {
         list.put(Step::Bet(amount).take(&mut table))?;
         if table.get(place::TOTAL_BET_COUNT) > bets {
             break;

@@ -1,42 +1,12 @@
 //! Writes lists of the oracle's answers. The format stands in oracle/README.md.
 
-mod amounts;
-mod broken;
-mod builder;
-mod builders;
-mod builds;
-mod carry;
-mod chip_by_chip;
-mod draw;
-mod edges;
-mod faults;
-mod floats;
-mod hands;
-mod kinds;
-mod line;
-mod list;
 mod options;
-mod play;
-mod pots;
-mod refusals;
-mod rounds;
-mod scripts;
-mod seats;
-mod settled_hands;
-mod settlement;
-mod settlements;
-mod sound;
-mod step;
-mod steps;
-mod table;
-mod tables;
-mod wagers;
 
 use std::io;
 use std::process::ExitCode;
 
-use draw::Draw;
-use list::List;
+use lists::draw::Draw;
+use lists::list::List;
 use options::Options;
 
 fn main() -> ExitCode {

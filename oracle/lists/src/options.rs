@@ -2,7 +2,7 @@
 
 use std::path::PathBuf;
 
-use crate::kinds::{KINDS, Kind};
+use lists::kinds::{KINDS, Kind};
 
 pub struct Options {
     pub kind: &'static Kind,

@@ -87,12 +87,12 @@ fn made(line: Line, data: Option<RoundData>) -> (Line, Option<Table>) {
 }
 
 /// One bet alone is good too.
-fn length(draw: &mut Draw) -> usize {
+pub fn length(draw: &mut Draw) -> usize {
     if draw.once_in(12) { 1 } else { draw.players() }
 }
 
 /// A seat at or above the length; none is left above 16, so seat 15 then.
-fn outside(draw: &mut Draw, length: usize) -> u16 {
+pub fn outside(draw: &mut Draw, length: usize) -> u16 {
     1 << draw.within(length.min(MAX_SEATS - 1), MAX_SEATS - 1)
 }
 
@@ -102,7 +102,7 @@ fn load(list: &mut List, table: &Table) -> io::Result<()> {
 
 /// Round data that no call makes. The seats active at its start are never looked
 /// at, so they may stand anywhere.
-fn loaded(draw: &mut Draw) -> Table {
+pub fn loaded(draw: &mut Draw) -> Table {
     let length = length(draw);
     let mut table = Table::ZEROS;
     table.set(place::ROUND_LENGTH, length);
@@ -141,7 +141,7 @@ fn spoil(draw: &mut Draw, table: &mut Table, length: usize) {
 }
 
 /// What a bet adds: up to the bet, a raise above it, or anything.
-fn extra(draw: &mut Draw, table: &Table) -> f32 {
+pub fn extra(draw: &mut Draw, table: &Table) -> f32 {
     let seat = table.get(place::TO_ACT_IDX).min(MAX_SEATS - 1);
     let short = table.float(place::ROUND_BET) - table.float(place::ROUND_BETS + seat);
     let extra = match draw.below(6) {

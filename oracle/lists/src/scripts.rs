@@ -1,14 +1,14 @@
 //! The kind `scripts`: scripts with what they print. Each case is a script by
 //! itself; those made by hand come first, then those drawn.
 
-mod drawn;
+pub mod drawn;
 mod forms;
 mod limits;
-mod player;
+pub mod player;
 mod pots;
 mod reading;
 mod refused;
-mod written;
+pub mod written;
 
 use std::io;
 

@@ -99,7 +99,7 @@ fn paid(table: &Table, ranks: &[u16]) -> Table {
 }
 
 /// Each seat's stack less its starting stack.
-fn rewards(table: &Table) -> impl Iterator<Item = i32> + '_ {
+pub fn rewards(table: &Table) -> impl Iterator<Item = i32> + '_ {
     let whole = |at| chips(table.float(at)) as i32;
     let seats = 0..table.get(place::NUM_PLAYERS);
     seats.map(move |seat| whole(place::STACKS + seat) - whole(place::STARTING_STACKS + seat))

@@ -31,7 +31,7 @@ fn load(list: &mut List, table: &Table) -> io::Result<()> {
 }
 
 /// Mostly a fair table; else one with up to two things spoiled, sound or not.
-fn drawn(draw: &mut Draw) -> Table {
+pub fn drawn(draw: &mut Draw) -> Table {
     let mut table = pots::fair(draw);
     let kind = draw.below(12);
     if kind < 4 {
@@ -52,7 +52,7 @@ fn settle(list: &mut List, draw: &mut Draw, table: &mut Table) -> io::Result<()>
 }
 
 /// Ranks of few kinds, so that some are equal, or of any kind.
-fn ranks(draw: &mut Draw, count: usize) -> Vec<u16> {
+pub fn ranks(draw: &mut Draw, count: usize) -> Vec<u16> {
     let kinds = draw.pick(&[1, 2, 2, 3, 3, 5, 1 << 16]);
     let lowest = draw.below((1 << 16) - kinds + 1);
     (0..count).map(|_| (lowest + draw.below(kinds)) as u16).collect()

@@ -9,6 +9,7 @@ use crate::refusals::{self, BAD_RECORD, BAD_SEAT, COUNTER_FULL, Refusal};
 use crate::sound;
 use crate::table::{Table, place};
 
+#[derive(Clone, Copy)]
 pub enum Step {
     Advance,
     Complete,
@@ -23,7 +24,7 @@ pub enum Step {
 }
 
 impl Step {
-    fn written(&self) -> Line {
+    pub fn written(&self) -> Line {
         match *self {
             Step::Advance => Line::new('n'),
             Step::Complete => Line::new('x'),

@@ -1,0 +1,11 @@
+//! rs_poker's `arena`, as far as a table needs it.
+
+pub mod action;
+pub mod errors;
+pub mod game_state;
+
+mod builder;
+mod round;
+mod round_data;
+
+pub use game_state::*;

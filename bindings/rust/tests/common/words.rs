@@ -1,0 +1,181 @@
+//! Any two arrays at the boundary, sound or not. A refused call must leave them as they are, bit for bit.
+#![allow(dead_code, reason = "no test uses all of it")]
+
+use peatcloak::arena::GameState;
+use peatcloak::sys;
+
+#[derive(Clone)]
+pub struct Words {
+    pub floats: [f32; 88],
+    pub numbers: [u32; 24],
+}
+
+/// A call that writes, and what it answers.
+macro_rules! call {
+    ($step:ident, $words:expr $(, $more:expr)*) => {{
+        let before = $words.bits();
+        let Words { floats, numbers } = &mut *$words;
+        // SAFETY: the arrays are there, are this long and do not overlap.
+        let refused = unsafe {
+            sys::$step(floats.as_mut_ptr(), floats.len(), numbers.as_mut_ptr(), numbers.len() $(, $more)*)
+        };
+        assert!(refused == 0 || $words.bits() == before, "a refused call has written");
+        refused
+    }};
+}
+
+impl Words {
+    pub const ZEROS: Words = Words { floats: [0.0; 88], numbers: [0; 24] };
+
+    pub fn of(state: &GameState) -> Self {
+        let (&floats, &numbers) = state.words();
+        Words { floats, numbers }
+    }
+
+    pub fn bits(&self) -> ([u32; 88], [u32; 24]) {
+        (self.floats.map(f32::to_bits), self.numbers)
+    }
+
+    pub fn do_bet(&mut self, amount: f32, is_forced: bool) -> u32 {
+        call!(peatcloak_do_bet, self, amount, is_forced.into())
+    }
+
+    pub fn fold(&mut self) -> u32 {
+        call!(peatcloak_fold, self)
+    }
+
+    pub fn advance_round(&mut self) -> u32 {
+        call!(peatcloak_advance_round, self)
+    }
+
+    pub fn complete(&mut self) -> u32 {
+        call!(peatcloak_complete, self)
+    }
+
+    pub fn award(&mut self, seat: u32, amount: f32) -> u32 {
+        call!(peatcloak_award, self, seat, amount)
+    }
+
+    pub fn settle(&mut self) -> u32 {
+        let (ranks, mut rewards) = ([0; 16], [0; 16]);
+        call!(peatcloak_settle, self, ranks.as_ptr(), 16, rewards.as_mut_ptr(), 16)
+    }
+
+    pub fn run_bets(&mut self) -> u32 {
+        call!(peatcloak_run_bets, self, [10.0].as_ptr(), 1)
+    }
+
+    pub fn player_reward(&self, seat: u32) -> (u32, f32) {
+        let mut reward = 0.0;
+        let Words { floats, numbers } = self;
+        // SAFETY: the arrays are there, are this long and do not overlap.
+        let refused = unsafe {
+            sys::peatcloak_player_reward(
+                floats.as_ptr(),
+                floats.len(),
+                numbers.as_ptr(),
+                numbers.len(),
+                seat,
+                &raw mut reward,
+                1,
+            )
+        };
+        (refused, reward)
+    }
+
+    /// The refusal, the six amounts and the seven answers.
+    pub fn queries(&self, seat: u32) -> (u32, [f32; 6], [u32; 7]) {
+        let (mut amounts, mut answers) = ([0.0; 6], [0; 7]);
+        let Words { floats, numbers } = self;
+        // SAFETY: the arrays are there, are this long and do not overlap.
+        let refused = unsafe {
+            sys::peatcloak_queries(
+                floats.as_ptr(),
+                floats.len(),
+                numbers.as_ptr(),
+                numbers.len(),
+                seat,
+                amounts.as_mut_ptr(),
+                amounts.len(),
+                answers.as_mut_ptr(),
+                answers.len(),
+            )
+        };
+        (refused, amounts, answers)
+    }
+
+    pub fn current_round_player_bet(&self, seat: u32) -> f32 {
+        self.queries(seat).1[4]
+    }
+
+    /// A build with stacks, a big blind and the round data that stands here.
+    pub fn build_with_its_round_data(&mut self, stacks: &[f32], big_blind: f32) -> u32 {
+        let amounts = [big_blind, 0.0, 0.0];
+        let mut given = [0; 16];
+        (given[0], given[1], given[15]) = (1, 1, 1);
+        let nothing = [0];
+        call!(
+            peatcloak_build,
+            self,
+            stacks.as_ptr(),
+            stacks.len(),
+            stacks.as_ptr(),
+            0,
+            nothing.as_ptr(),
+            0,
+            amounts.as_ptr(),
+            amounts.len(),
+            given.as_ptr(),
+            given.len()
+        )
+    }
+
+    pub fn round_new(mut self, n: u32, min_raise: f32, active: u16, to_act: u32) -> u32 {
+        call!(peatcloak_round_new, &mut self, n, min_raise, active, to_act)
+    }
+
+    pub fn round_new_with_bets(
+        mut self,
+        min_raise: f32,
+        active: u16,
+        to_act: u32,
+        bets: &[f32],
+    ) -> u32 {
+        let (first, count) = (bets.as_ptr(), bets.len());
+        call!(peatcloak_round_new_with_bets, &mut self, min_raise, active, to_act, first, count)
+    }
+
+    pub fn round_do_bet(&mut self, extra: f32, is_forced: bool) -> u32 {
+        call!(peatcloak_round_do_bet, self, extra, is_forced.into())
+    }
+
+    /// What `advance_action`, `do_bet` of 1 and `current_player_bet` of the round data here are refused with.
+    pub fn refused_round(&self) -> [u32; 3] {
+        let (mut walk, mut bet) = (self.clone(), self.clone());
+        [
+            call!(peatcloak_round_advance_action, &mut walk),
+            bet.round_do_bet(1.0, false),
+            self.round_queries().2[2],
+        ]
+    }
+
+    /// The refusal, the bet and the three answers.
+    pub fn round_queries(&self) -> (u32, f32, [u32; 3]) {
+        let (mut bet, mut answers) = (0.0, [0; 3]);
+        let Words { floats, numbers } = self;
+        // SAFETY: the arrays are there, are this long and do not overlap.
+        let refused = unsafe {
+            sys::peatcloak_round_queries(
+                floats.as_ptr(),
+                floats.len(),
+                numbers.as_ptr(),
+                numbers.len(),
+                &raw mut bet,
+                1,
+                answers.as_mut_ptr(),
+                answers.len(),
+            )
+        };
+        (refused, bet, answers)
+    }
+}

@@ -1,0 +1,112 @@
+//! Builders.
+
+use lists::builder::Builder;
+use lists::builders;
+use lists::carry;
+use lists::draw::Draw;
+use lists::faults::FAULTS;
+use lists::line::Line;
+use lists::table::{MAX_SEATS, Table, place};
+
+use crate::boundary::{self, Given};
+use crate::difference::{Difference, shown, tell_places};
+use crate::same;
+use crate::tally::{Kind, Tally};
+
+/// A good builder, with none to three faults.
+pub fn any(draw: &mut Draw, tally: &mut Tally) -> Result<(), Box<Difference>> {
+    let mut builder = builders::good(draw);
+    for _ in 0..draw.pick(&[0, 0, 0, 0, 1, 1, 2, 3]) {
+        draw.pick(&FAULTS)(draw, &mut builder);
+    }
+    tally.count(Kind::Build, builder.build().err().unwrap_or(0));
+    if is_same(&builder) { Ok(()) } else { Err(told(&smaller(builder))) }
+}
+
+fn is_same(builder: &Builder) -> bool {
+    let before = before(builder);
+    let mut got = before.clone();
+    let refused = ours(&mut got, builder);
+    match builder.build() {
+        Err(number) => refused == number && got.words == before.words,
+        Ok(table) => refused == 0 && same::tables(&got, &table, &[]),
+    }
+}
+
+/// Given round data stands at its places before the call; of a longer list, its first 16 places.
+fn before(builder: &Builder) -> Table {
+    let mut table = Table::ZEROS;
+    if let Some(data) = &builder.round_data {
+        let mut sixteen = data.clone();
+        sixteen.player_bet.truncate(MAX_SEATS);
+        carry::put_round_data(&mut table, &sixteen);
+        table.set(place::ROUND_LENGTH, data.player_bet.len());
+    }
+    table
+}
+
+fn ours(table: &mut Table, builder: &Builder) -> u32 {
+    let given = |is: bool| is as u32;
+    let cap = builder.cap.flatten();
+    let with = Given {
+        stacks: builder.stacks.as_deref().unwrap_or(&[]),
+        player_bet: builder.player_bet.as_deref().unwrap_or(&[]),
+        board: builder.board.as_deref().unwrap_or(&[]),
+        amounts: [builder.big_blind, builder.small_blind, builder.ante]
+            .map(Option::unwrap_or_default),
+        given: [
+            given(builder.stacks.is_some()),
+            given(builder.big_blind.is_some()),
+            given(builder.small_blind.is_some()),
+            given(builder.ante.is_some()),
+            given(builder.dealer_idx.is_some()),
+            builder.dealer_idx.unwrap_or(0) as u32,
+            given(builder.cap.is_some()),
+            given(cap.is_some()),
+            cap.unwrap_or(0).into(),
+            given(builder.round.is_some()),
+            builder.round.unwrap_or(0) as u32,
+            given(builder.board.is_some()),
+            given(builder.hands.is_some()),
+            builder.hands.unwrap_or(0) as u32,
+            given(builder.player_bet.is_some()),
+            given(builder.round_data.is_some()),
+        ],
+    };
+    boundary::build(table, &with)
+}
+
+/// As few fields as still differ.
+fn smaller(mut builder: Builder) -> Builder {
+    let drop_one: [fn(&mut Builder); 9] = [
+        |builder| builder.small_blind = None,
+        |builder| builder.ante = None,
+        |builder| builder.dealer_idx = None,
+        |builder| builder.cap = None,
+        |builder| builder.round = None,
+        |builder| builder.board = None,
+        |builder| builder.hands = None,
+        |builder| builder.player_bet = None,
+        |builder| builder.round_data = None,
+    ];
+    for drop in drop_one {
+        let mut fewer = builder.clone();
+        drop(&mut fewer);
+        if !is_same(&fewer) {
+            builder = fewer;
+        }
+    }
+    builder
+}
+
+fn told(builder: &Builder) -> Box<Difference> {
+    let mut got = before(builder);
+    let refused = ours(&mut got, builder);
+    let mut told = format!("{}\n", builder.write(Line::new('b')).text());
+    told += &format!("ours  refused {refused}, {}\n", shown(&got));
+    match builder.build() {
+        Err(number) => told += &format!("Rust  refused {number}\n"),
+        Ok(table) => tell_places(&mut told, &got, &table, &[]),
+    }
+    Difference::new(told)
+}
