@@ -26,7 +26,7 @@ use Rattle.rounds.specs.declared.AmountAnswer.{AmountAnswer}
 use Rattle.rounds.specs.Steps.{numberOf, done, refused, currentBet, amountOf, amountNumber}
 use Rattle.host.proofs.LawsLaid.{laid-long}
 use Rattle.host.specs.Places.{roomFor, dataAt}
-use Rattle.host.specs.Laid.{wordOf, flagOf}
+use Rattle.host.specs.Laid.{laidList, wordOf, flagOf}
 use Rattle.host.specs.Parts.{dataFits, dataStandsIn, dataOn, roundFloats, roundNumbers, roundFloatsGiven, roundNumbersGiven, roundFloatsAfter, roundNumbersAfter, canTell, toldAmounts, toldAnswers}
 
 -- ---- what fits a word
@@ -49,11 +49,9 @@ next-seat s i j k r a e f g h =
 pub no-seat : (s : PlayerBitSet) (i j : ℕ) (a : NextSeat) → j ≡ i → a ≡ onesOf s j → a ≡ NoMore → 16 ≡ seatOf (onesOf s i)
 no-seat s i j a e f g = let q : onesOf s i ≡ NoMore = ap (onesOf s) (sym e) ∙ sym f ∙ g in ap seatOf (sym q)
 
--- ---- laying round data keeps the length
-pub round-long : (d : RoundData) (fs o : List Float) → o ≡ roundFloats d fs → length o ≡ length fs
-unfolding roundFloats
-round-long d fs o e =
-    ap length e ∙ laid-long 72 (d .«player_bet») (set (set fs 4 (d .bet)) 5 (d .«min_raise»)) 16 ∙ length-set (set fs 4 (d .bet)) 5 (d .«min_raise») ∙ length-set fs 4 (d .bet)
+-- ---- a list laid after two stores keeps the length
+pub laid-over : (at i j : ℕ) (l fs o : List Float) (x y : Float) → o ≡ laidList at l 16 (set (set fs i x) j y) → length o ≡ length fs
+laid-over at i j l fs o x y e = ap length e ∙ laid-long at l (set (set fs i x) j y) 16 ∙ length-set (set fs i x) j y ∙ length-set fs i x
 
 -- ---- what is told of round data, made of callees' results
 pub amounts-told : (d : RoundData) (xs : List Float) (a : AmountAnswer) (x : Float) → a ≡ currentBet d → x ≡ amountOf a → set xs 0 x ≡ toldAmounts d xs
@@ -72,7 +70,7 @@ unfolding toldAnswers
 answers-told d bs a n n′ flag number is e1 e2 e3 e4 e5 e6 = rw (e6, e5, e4, e3, e2, e1, count-word (d .«needs_action» .set))
 
 -- ---- the tests
-both : (a b : Bool) → a && b ≡ true → (a ≡ true) × (b ≡ true)
+pub both : (a b : Bool) → a && b ≡ true → (a ≡ true) × (b ≡ true)
 both true b e = (refl, e)
 both false b e = absurd (subst T (sym e) tt)
 

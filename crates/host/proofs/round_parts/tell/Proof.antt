@@ -1,9 +1,7 @@
 -- `host::round_parts::tell`: store by store. Assumes nothing.
 use Rattle.host.proofs.LawsParts.{amounts-told, answers-told}
-use Rattle.host.specs.Parts.{toldAmounts, toldAnswers}
 use native.Mathlib.Omega.{arith}
 use lib.ListN.{length-set}
-use mathlib.Core.Path.{refl, _∙_}
 use borrow.Author.Needs.{needs}
 use Rattle.host.proofs.round_parts.tell.Statement.{statement}
 use Rattle.host.proofs.round_parts.tell.Tie as tie
