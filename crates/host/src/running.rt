@@ -10,8 +10,11 @@ ghost use Rattle.host.specs.Steps.{floatsAfter, numbersAfter};
 use crate::laying;
 use crate::standing;
 use console::play;
+use refusals::AddedError;
+use refusals::Refusal;
 use rounds::StepAnswer;
 use table::BetAnswer;
+use table::BetStep;
 use table::GameState;
 use table::TableStep;
 
@@ -27,17 +30,20 @@ fn one_if_taken(answer: BetAnswer) -> usize
 fn run_from(table: GameState, amounts: &[f32]) -> TableStep
     ensures { λ r. ⌜ r ≡ done (takenOf (length (now (amounts .entry))) (now (amounts .entry)) table) (ranTo (length (now (amounts .entry))) (now (amounts .entry)) table) ⌝ }
 {
-    let mut t = table;
+    // the step holds the table, so that each turn copies it once less
+    let mut s = BetStep {
+        answer: BetAnswer::NotPaid(Refusal::Added(AddedError::BadRecord)),
+        table,
+    };
     let mut count = 0usize;
     let mut k = 0usize;
     while k < amounts.len() {
-        let s = t.do_bet(amounts[k], false);
-        let after = s.table;
+        s = s.table.do_bet(amounts[k], false);
         let answer = s.answer;
-        t = after;
         count += one_if_taken(answer);
         k += 1;
     }
+    let t = s.table;
     TableStep {
         answer: StepAnswer::Done(count),
         table: t,

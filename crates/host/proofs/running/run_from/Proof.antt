@@ -8,10 +8,10 @@ use Rattle.host.proofs.running.run_from.Statement.{statement}
 use Rattle.host.proofs.running.run_from.Tie as tie
 
 abbrev Inv-loop : tie.InvT-loop
-Inv-loop amounts t₀ count₀ k₀ t count k = (k ≤ length amounts) × Ran amounts t₀ k t count
+Inv-loop amounts s₀ count₀ k₀ s count k = (k ≤ length amounts) × Ran amounts (s₀ .table) k (s .table) count
 
 abbrev μ-loop : tie.MeasureT-loop
-μ-loop amounts t₀ count₀ k₀ t count k = length amounts - k
+μ-loop amounts s₀ count₀ k₀ s count k = length amounts - k
 
 loop-holds : tie.Need-loop-holds Inv-loop μ-loop
 loop-holds c = (omega arith, begins _ _)
@@ -30,7 +30,7 @@ one-if-taken-requires c κs = search needs
 
 add-count : tie.Need-add-count Inv-loop μ-loop
 add-count c =
-    let at-do-bet = c .before .before in
+    let at-do-bet = c .before in
     let at-loop = at-do-bet .before .before .before in
     omega (arith, at-loop .loop .inv .1 .least, taken-le (at-do-bet .do-bet .result .answer), c .one-if-taken .ensures)
 
@@ -42,14 +42,15 @@ loop-less c = omega arith
 
 loop-again : tie.Need-loop-again Inv-loop μ-loop
 loop-again c =
-    let at-do-bet = c .before .before in
+    let at-do-bet = c .before in
     let at-loop = at-do-bet .before .before .before in
     (omega arith, goes-on _ _ _ _ _ _ _ (at-loop .loop .inv .1) (at-do-bet .do-bet .ensures) (c .one-if-taken .ensures))
 
 returns : tie.Need-returns Inv-loop μ-loop
 returns c =
-    let at-loop = c .before in
-    ends _ _ _ _ _ _ (at-loop .loop .inv .1) (at-loop .loop .inv .0) (c .loop-test .left)
+    let at-loop-test = c .before in
+    let at-loop = at-loop-test .before in
+    ends _ _ _ _ _ _ (at-loop .loop .inv .1) (at-loop .loop .inv .0) (at-loop-test .loop-test .left)
 
 pub run-from-spec : {M : Type 1} → statement M
 run-from-spec =
