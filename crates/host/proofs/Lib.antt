@@ -4,6 +4,7 @@ pub mod LawsLaid
 pub mod LawsParts
 pub mod LawsRead
 pub mod LawsRun
+pub mod LawsStands
 pub mod LawsStep
 pub mod Made
 pub mod Rounds
