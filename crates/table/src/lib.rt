@@ -1,4 +1,5 @@
 // The second half of text 000: the record, by value, with its steps and queries; and the choice. The builder is a crate of its own.
+mod lists;
 pub mod parts;
 pub mod soundness;
 
@@ -170,14 +171,14 @@ impl GameState {
             t.board_len,
             board,
         ) {
-            let mut d = t.round_data;
-            let old = d.bet;
-            let p = d.player_bet[i];
+            let old = t.round_data.bet;
+            let m = t.round_data.min_raise;
+            let p = lists::at(&t.round_data.player_bet, i);
             let k = t.stacks[i];
-            let total = d.total_bet_count;
-            let raise = d.total_raise_count;
-            let force = d.forced_bet_count;
-            match bets::validate(is_forced, amount, p, k, old, d.min_raise) {
+            let total = t.round_data.total_bet_count;
+            let raise = t.round_data.total_raise_count;
+            let force = t.round_data.forced_bet_count;
+            match bets::validate(is_forced, amount, p, k, old, m) {
                 BetSize::Refused(r) => {
                     answer = BetAnswer::NotPaid(r);
                 }
@@ -186,22 +187,24 @@ impl GameState {
                     let left = k - x;
                     let out = floats::is_near_zero(left);
                     let b = floats::max(old, y);
-                    let least = floats::max(d.min_raise, b - old);
+                    let least = floats::max(m, b - old);
                     let owed = parts::owing_after(old < b, is_forced, out, owing, active, i);
                     let w = rounds::walking::walk(owed, n, i);
                     let up = paying::is_raise(is_forced, old, y);
                     let room = !paying::counter_full(total, raise, force, is_forced, old, y);
                     answer = parts::paid_if(room, x, w.passed);
                     if room {
-                        d.min_raise = least;
-                        d.bet = b;
-                        d.player_bet[i] = y;
-                        d.total_bet_count = paying::up_if(true, total);
-                        d.total_raise_count = paying::up_if(up, raise);
-                        d.forced_bet_count = paying::up_if(is_forced, force);
-                        d.needs_action.set = owed;
-                        d.to_act_idx = w.seat;
-                        t.round_data = d;
+                        let bets_made = paying::up_if(true, total);
+                        let raises = paying::up_if(up, raise);
+                        let forced_bets = paying::up_if(is_forced, force);
+                        lists::put(&mut t.round_data.player_bet, i, y);
+                        t.round_data.min_raise = least;
+                        t.round_data.bet = b;
+                        t.round_data.total_bet_count = bets_made;
+                        t.round_data.total_raise_count = raises;
+                        t.round_data.forced_bet_count = forced_bets;
+                        t.round_data.needs_action.set = owed;
+                        t.round_data.to_act_idx = w.seat;
                         t.player_active.set = seats::bits::without_if(out, active, i);
                         t.player_all_in.set = seats::bits::with_if(out, all_in, i);
                         t.total_pot = t.total_pot + x;

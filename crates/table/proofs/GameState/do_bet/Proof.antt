@@ -1,9 +1,9 @@
 -- `table::GameState::do_bet`: each way to the exit is a case of the definition; the record is made field by field of the callees' results.
 -- Assumes nothing.
-use native.Mathlib.Omega.{arith}
-use mathlib.Core.Path.{_∙_}
+use Rattle.table.proofs.Bet.{bet-bad, bet-refused, bet-full, bet-paid, sized, counted-of, made}
 use Rattle.table.proofs.Sound.{passed}
-use Rattle.table.proofs.Bet.{bet-bad, bet-refused, bet-full, bet-paid, made}
+use mathlib.Core.Path.{_∙_}
+use native.Mathlib.Omega.{arith}
 use borrow.Author.Needs.{needs}
 use Rattle.table.proofs.GameState.do_bet.Statement.{statement}
 use Rattle.table.proofs.GameState.do_bet.Tie as tie
@@ -11,29 +11,26 @@ use Rattle.table.proofs.GameState.do_bet.Tie as tie
 is-sound-requires : tie.Need-is-sound-requires
 is-sound-requires c κs = search needs
 
-mul-p : tie.Need-mul-p
-mul-p c =
-    let at-if1 = c .before in
+at-requires : tie.Need-at-requires
+at-requires c κs =
+    let at-if1 = c .before .before in
     let at-is-sound = at-if1 .before in
-    omega (arith, passed (at-is-sound .before .before .args .self) _ (at-is-sound .is-sound .ensures) (at-if1 .if1 .taken) .place)
-
-element-copy-out-p : tie.Need-element-copy-out-p
-element-copy-out-p c =
-    let at-if1 = c .before in
-    let at-is-sound = at-if1 .before in
-    passed (at-is-sound .before .before .args .self) _ (at-is-sound .is-sound .ensures) (at-if1 .if1 .taken) .place
+    let at-start = at-is-sound .before .before in
+    passed (at-start .args .self) _ (at-is-sound .is-sound .ensures) (at-if1 .if1 .taken) .place
 
 mul-k : tie.Need-mul-k
 mul-k c =
-    let at-if1 = c .before .before in
+    let at-if1 = c .before .before .before in
     let at-is-sound = at-if1 .before in
-    omega (arith, passed (at-is-sound .before .before .args .self) _ (at-is-sound .is-sound .ensures) (at-if1 .if1 .taken) .place)
+    let at-start = at-is-sound .before .before in
+    omega (arith, passed (at-start .args .self) _ (at-is-sound .is-sound .ensures) (at-if1 .if1 .taken) .place)
 
 element-copy-out-k : tie.Need-element-copy-out-k
 element-copy-out-k c =
-    let at-if1 = c .before .before in
+    let at-if1 = c .before .before .before in
     let at-is-sound = at-if1 .before in
-    passed (at-is-sound .before .before .args .self) _ (at-is-sound .is-sound .ensures) (at-if1 .if1 .taken) .place
+    let at-start = at-is-sound .before .before in
+    passed (at-start .args .self) _ (at-is-sound .is-sound .ensures) (at-if1 .if1 .taken) .place
 
 validate-requires : tie.Need-validate-requires
 validate-requires c κs = search needs
@@ -68,18 +65,6 @@ counter-full-requires c κs = search needs
 paid-if-requires : tie.Need-paid-if-requires
 paid-if-requires c κs = search needs
 
-mul-d : tie.Need-mul-d
-mul-d c =
-    let at-if1 = c .before .before .before .before .before .before .before .before .before .before .before .before .before .before .before .before in
-    let at-is-sound = at-if1 .before in
-    omega (arith, passed (at-is-sound .before .before .args .self) _ (at-is-sound .is-sound .ensures) (at-if1 .if1 .taken) .place)
-
-element-write-d : tie.Need-element-write-d
-element-write-d c =
-    let at-if1 = c .before .before .before .before .before .before .before .before .before .before .before .before .before .before .before .before in
-    let at-is-sound = at-if1 .before in
-    passed (at-is-sound .before .before .args .self) _ (at-is-sound .is-sound .ensures) (at-if1 .if1 .taken) .place
-
 up-if-requires : tie.Need-up-if-requires
 up-if-requires c κs = search needs
 
@@ -89,6 +74,13 @@ up-if-requires-2 c κs = search needs
 up-if-requires-3 : tie.Need-up-if-requires-3
 up-if-requires-3 c κs = search needs
 
+put-requires : tie.Need-put-requires
+put-requires c κs =
+    let at-if1 = c .before .before .before .before .before .before .before .before .before .before .before .before .before .before .before .before .before .before .before .before .before in
+    let at-is-sound = at-if1 .before in
+    let at-start = at-is-sound .before .before in
+    passed (at-start .args .self) _ (at-is-sound .is-sound .ensures) (at-if1 .if1 .taken) .place
+
 without-if-requires : tie.Need-without-if-requires
 without-if-requires c κs = search needs
 
@@ -97,50 +89,55 @@ with-if-requires c κs = search needs
 
 mul-t : tie.Need-mul-t
 mul-t c =
-    let at-if1 = c .before .before .before .before .before .before .before .before .before .before .before .before .before .before .before .before .before .before .before .before .before .before .before .before in
+    let at-if1 = c .before .before .before .before .before .before .before .before .before .before .before .before .before .before .before .before .before .before .before .before .before .before .before .before .before .before .before .before .before .before .before .before .before in
     let at-is-sound = at-if1 .before in
-    omega (arith, passed (at-is-sound .before .before .args .self) _ (at-is-sound .is-sound .ensures) (at-if1 .if1 .taken) .place)
+    let at-start = at-is-sound .before .before in
+    omega (arith, passed (at-start .args .self) _ (at-is-sound .is-sound .ensures) (at-if1 .if1 .taken) .place)
 
 element-write-t : tie.Need-element-write-t
 element-write-t c =
-    let at-if1 = c .before .before .before .before .before .before .before .before .before .before .before .before .before .before .before .before .before .before .before .before .before .before .before .before in
+    let at-if1 = c .before .before .before .before .before .before .before .before .before .before .before .before .before .before .before .before .before .before .before .before .before .before .before .before .before .before .before .before .before .before .before .before .before in
     let at-is-sound = at-if1 .before in
-    passed (at-is-sound .before .before .args .self) _ (at-is-sound .is-sound .ensures) (at-if1 .if1 .taken) .place
+    let at-start = at-is-sound .before .before in
+    passed (at-start .args .self) _ (at-is-sound .is-sound .ensures) (at-if1 .if1 .taken) .place
 
 mul-t-2 : tie.Need-mul-t-2
 mul-t-2 c =
-    let at-if1 = c .before .before .before .before .before .before .before .before .before .before .before .before .before .before .before .before .before .before .before .before .before .before .before .before in
+    let at-if1 = c .before .before .before .before .before .before .before .before .before .before .before .before .before .before .before .before .before .before .before .before .before .before .before .before .before .before .before .before .before .before .before .before .before in
     let at-is-sound = at-if1 .before in
-    omega (arith, passed (at-is-sound .before .before .args .self) _ (at-is-sound .is-sound .ensures) (at-if1 .if1 .taken) .place)
+    let at-start = at-is-sound .before .before in
+    omega (arith, passed (at-start .args .self) _ (at-is-sound .is-sound .ensures) (at-if1 .if1 .taken) .place)
 
 element-copy-out-t : tie.Need-element-copy-out-t
 element-copy-out-t c =
-    let at-if1 = c .before .before .before .before .before .before .before .before .before .before .before .before .before .before .before .before .before .before .before .before .before .before .before .before in
+    let at-if1 = c .before .before .before .before .before .before .before .before .before .before .before .before .before .before .before .before .before .before .before .before .before .before .before .before .before .before .before .before .before .before .before .before .before in
     let at-is-sound = at-if1 .before in
-    passed (at-is-sound .before .before .args .self) _ (at-is-sound .is-sound .ensures) (at-if1 .if1 .taken) .place
+    let at-start = at-is-sound .before .before in
+    passed (at-start .args .self) _ (at-is-sound .is-sound .ensures) (at-if1 .if1 .taken) .place
 
 mul-t-3 : tie.Need-mul-t-3
 mul-t-3 c =
-    let at-if1 = c .before .before .before .before .before .before .before .before .before .before .before .before .before .before .before .before .before .before .before .before .before .before .before .before .before in
+    let at-if1 = c .before .before .before .before .before .before .before .before .before .before .before .before .before .before .before .before .before .before .before .before .before .before .before .before .before .before .before .before .before .before .before .before .before .before in
     let at-is-sound = at-if1 .before in
-    omega (arith, passed (at-is-sound .before .before .args .self) _ (at-is-sound .is-sound .ensures) (at-if1 .if1 .taken) .place)
+    let at-start = at-is-sound .before .before in
+    omega (arith, passed (at-start .args .self) _ (at-is-sound .is-sound .ensures) (at-if1 .if1 .taken) .place)
 
 element-write-t-2 : tie.Need-element-write-t-2
 element-write-t-2 c =
-    let at-if1 = c .before .before .before .before .before .before .before .before .before .before .before .before .before .before .before .before .before .before .before .before .before .before .before .before .before in
+    let at-if1 = c .before .before .before .before .before .before .before .before .before .before .before .before .before .before .before .before .before .before .before .before .before .before .before .before .before .before .before .before .before .before .before .before .before .before in
     let at-is-sound = at-if1 .before in
-    passed (at-is-sound .before .before .args .self) _ (at-is-sound .is-sound .ensures) (at-if1 .if1 .taken) .place
+    let at-start = at-is-sound .before .before in
+    passed (at-start .args .self) _ (at-is-sound .is-sound .ensures) (at-if1 .if1 .taken) .place
 
--- ---- the ways that leave the table: a refused amount, a full counter, an unsound record
 returns : tie.Need-returns
 returns c =
     let at-r = c .before in
     let at-validate = at-r .before .before in
-    let at-if1 = at-validate .before .before .before .before in
+    let at-at = at-validate .before .before in
+    let at-if1 = at-at .before .before .before in
     let at-is-sound = at-if1 .before in
     let at-start = at-is-sound .before .before in
-    bet-refused (at-start .args .self) _ (at-is-sound .is-sound .ensures) (at-start .args .amount) (at-start .args .is-forced)
-    _ (at-validate .validate .ensures) (at-if1 .if1 .taken) _ (at-r .r .given .1)
+    bet-refused (at-start .args .self) _ (at-is-sound .is-sound .ensures) (at-start .args .amount) (at-start .args .is-forced) _ (sized (at-start .args .self) _ (at-at .at .ensures) (at-start .args .amount) (at-start .args .is-forced) _ (at-validate .validate .ensures)) (at-if1 .if1 .taken) _ (at-r .r .given .1)
 
 returns-3 : tie.Need-returns-3
 returns-3 c =
@@ -148,11 +145,11 @@ returns-3 c =
     let at-counter-full = at-paid-if .before in
     let at-x = at-counter-full .before .before .before .before .before .before .before .before in
     let at-validate = at-x .before .before in
-    let at-if1 = at-validate .before .before .before .before in
+    let at-at = at-validate .before .before in
+    let at-if1 = at-at .before .before .before in
     let at-is-sound = at-if1 .before in
     let at-start = at-is-sound .before .before in
-    bet-full (at-start .args .self) _ (at-is-sound .is-sound .ensures) (at-start .args .amount) (at-start .args .is-forced)
-    _ (at-validate .validate .ensures) (at-if1 .if1 .taken) _ (at-x .x .given .1) _ (at-counter-full .counter-full .ensures) _ _ (c .if2 .left) (at-paid-if .paid-if .ensures)
+    bet-full (at-start .args .self) _ (at-is-sound .is-sound .ensures) (at-start .args .amount) (at-start .args .is-forced) _ (sized (at-start .args .self) _ (at-at .at .ensures) (at-start .args .amount) (at-start .args .is-forced) _ (at-validate .validate .ensures)) (at-if1 .if1 .taken) _ (at-x .x .given .1) _ (counted-of (at-start .args .self) _ (at-at .at .ensures) _ (at-start .args .is-forced) _ (at-counter-full .counter-full .ensures)) _ _ (c .if2 .left) (at-paid-if .paid-if .ensures)
 
 returns-4 : tie.Need-returns-4
 returns-4 c =
@@ -165,7 +162,8 @@ returns-2 : tie.Need-returns-2
 returns-2 c =
     let at-with-if = c .before .before in
     let at-without-if = at-with-if .before .before in
-    let at-up-if3 = at-without-if .before .before in
+    let at-put = at-without-if .before .before .before .before .before .before .before .before in
+    let at-up-if3 = at-put .before .before in
     let at-up-if2 = at-up-if3 .before in
     let at-up-if = at-up-if2 .before in
     let at-if2 = at-up-if .before in
@@ -179,23 +177,18 @@ returns-2 c =
     let at-is-near-zero = at-max .before in
     let at-x = at-is-near-zero .before .before in
     let at-validate = at-x .before .before in
-    let at-if1 = at-validate .before .before .before .before in
+    let at-at = at-validate .before .before in
+    let at-if1 = at-at .before .before .before in
     let at-is-sound = at-if1 .before in
     let at-start = at-is-sound .before .before in
-    made (at-start .args .self) _ (at-start .args .is-forced) _ _ _ _ _ _ _ _ _ _ _ _ _
-    (at-is-near-zero .is-near-zero .ensures) (at-max .max .ensures) (at-max2 .max2 .ensures) (at-owing-after .owing-after .ensures)
-    (at-walk .walk .ensures) (at-is-raise .is-raise .ensures) (at-up-if .up-if .ensures) (at-up-if2 .up-if2 .ensures)
-    (at-up-if3 .up-if3 .ensures) (at-without-if .without-if .ensures) (at-with-if .with-if .ensures) (at-if2 .if2 .taken) (at-paid-if .paid-if .ensures)
-    ∙ bet-paid (at-start .args .self) _ (at-is-sound .is-sound .ensures) (at-start .args .amount) (at-start .args .is-forced)
-    _ (at-validate .validate .ensures) (at-if1 .if1 .taken) _ (at-x .x .given .1) _ (at-counter-full .counter-full .ensures) (at-if2 .if2 .taken)
+    made (at-start .args .self) _ (at-start .args .is-forced) _ _ _ _ _ _ _ _ _ _ _ _ _ _ _ (at-at .at .ensures) (at-put .put .ensures) (at-is-near-zero .is-near-zero .ensures) (at-max .max .ensures) (at-max2 .max2 .ensures) (at-owing-after .owing-after .ensures) (at-walk .walk .ensures) (at-is-raise .is-raise .ensures) (at-up-if .up-if .ensures) (at-up-if2 .up-if2 .ensures) (at-up-if3 .up-if3 .ensures) (at-without-if .without-if .ensures) (at-with-if .with-if .ensures) (at-if2 .if2 .taken) (at-paid-if .paid-if .ensures) ∙ bet-paid (at-start .args .self) _ (at-is-sound .is-sound .ensures) (at-start .args .amount) (at-start .args .is-forced) _ (sized (at-start .args .self) _ (at-at .at .ensures) (at-start .args .amount) (at-start .args .is-forced) _ (at-validate .validate .ensures)) (at-if1 .if1 .taken) _ (at-x .x .given .1) _ (counted-of (at-start .args .self) _ (at-at .at .ensures) _ (at-start .args .is-forced) _ (at-counter-full .counter-full .ensures)) (at-if2 .if2 .taken)
 
 pub do-bet-spec : {M : Type 1} → statement M
 do-bet-spec =
     tie.close
     (tie.spec
     is-sound-requires
-    mul-p
-    element-copy-out-p
+    at-requires
     mul-k
     element-copy-out-k
     validate-requires
@@ -209,11 +202,10 @@ do-bet-spec =
     is-raise-requires
     counter-full-requires
     paid-if-requires
-    mul-d
-    element-write-d
     up-if-requires
     up-if-requires-2
     up-if-requires-3
+    put-requires
     without-if-requires
     with-if-requires
     mul-t
