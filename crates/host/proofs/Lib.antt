@@ -3,6 +3,7 @@ pub mod LawsBuild
 pub mod LawsLaid
 pub mod LawsParts
 pub mod LawsRead
+pub mod LawsReadBack
 pub mod LawsRun
 pub mod LawsStands
 pub mod LawsStep
