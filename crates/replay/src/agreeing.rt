@@ -42,6 +42,16 @@ pub fn same_float(line: &[u8], at: usize, ours: f32) -> usize {
     }
 }
 
+// A float with the same bits: of two zeros each is itself.
+fn same_bits(line: &[u8], at: usize, ours: f32) -> usize {
+    let w = reading::read_word(line, at);
+    if w.value == words::word_of(ours) {
+        w.next
+    } else {
+        NOWHERE
+    }
+}
+
 fn same_mark(line: &[u8], at: usize, byte: u8) -> usize {
     let m = reading::read_mark(line, at);
     if m.byte == byte { m.next } else { NOWHERE }
@@ -71,6 +81,13 @@ pub fn told_float(line: &[u8], at: usize, ours: f32) -> Told {
     Told {
         answer: 0,
         next: same_float(line, answered(line, at), ours),
+    }
+}
+
+pub fn told_bits(line: &[u8], at: usize, ours: f32) -> Told {
+    Told {
+        answer: 0,
+        next: same_bits(line, answered(line, at), ours),
     }
 }
 

@@ -4,6 +4,7 @@ use std::io;
 
 use crate::builder::Builder;
 use crate::builders;
+use crate::differences;
 use crate::draw::Draw;
 use crate::faults::FAULTS;
 use crate::hands;
@@ -11,7 +12,7 @@ use crate::line::Line;
 use crate::list::List;
 
 pub fn write(list: &mut List, draw: &mut Draw, count: u64) -> io::Result<()> {
-    for builder in hands::builders() {
+    for builder in hands::builders().into_iter().chain(differences::builders()) {
         put(list, &builder)?;
     }
     every_pair(list, draw)?;

@@ -5,11 +5,13 @@ use std::io;
 use approx::abs_diff_eq;
 
 use crate::amounts::{self, TELLING};
+use crate::differences;
 use crate::draw::Draw;
 use crate::line::Line;
 use crate::list::List;
 
 pub fn write(list: &mut List, draw: &mut Draw, count: u64) -> io::Result<()> {
+    list.put_all(differences::floats())?;
     for a in TELLING {
         for b in TELLING {
             of_two(list, a, b)?;
@@ -32,9 +34,11 @@ fn wide(draw: &mut Draw) -> f32 {
     if draw.once_in(2) { amounts::pattern(draw) } else { amounts::any(draw) }
 }
 
+/// Of two zeros the Rust may give either; here the answer is the first.
 fn of_two(list: &mut List, a: f32, b: f32) -> io::Result<()> {
-    list.put(Line::new('x').float(a).float(b).answer().float(a.max(b)))?;
-    list.put(Line::new('m').float(a).float(b).answer().float(a.min(b)))
+    let (larger, smaller) = if a == b { (a, a) } else { (a.max(b), a.min(b)) };
+    list.put(Line::new('x').float(a).float(b).answer().float(larger))?;
+    list.put(Line::new('m').float(a).float(b).answer().float(smaller))
 }
 
 fn of_one(list: &mut List, x: f32) -> io::Result<()> {

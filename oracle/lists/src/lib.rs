@@ -8,6 +8,7 @@ pub mod builders;
 pub mod builds;
 pub mod carry;
 pub mod chip_by_chip;
+pub mod differences;
 pub mod draw;
 pub mod edges;
 pub mod faults;

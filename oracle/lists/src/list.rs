@@ -26,6 +26,10 @@ impl List {
         self.put_text(line.text())
     }
 
+    pub fn put_all(&mut self, lines: Vec<Line>) -> io::Result<()> {
+        lines.into_iter().try_for_each(|line| self.put(line))
+    }
+
     pub fn put_text(&mut self, text: &str) -> io::Result<()> {
         writeln!(self.out, "{text}")
     }

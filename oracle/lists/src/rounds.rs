@@ -11,13 +11,14 @@ use crate::list::List;
 use crate::refusals::{BAD_RECORD, COUNTER_FULL};
 use crate::sound;
 use crate::table::{MAX_SEATS, Table, place};
-use crate::{amounts, hands};
+use crate::{amounts, differences, hands};
 
 pub fn write(list: &mut List, draw: &mut Draw, count: u64) -> io::Result<()> {
-    for table in hands::walks() {
-        load(list, &table)?;
-        list.put(walk(&mut table.clone()))?;
+    for mut table in hands::walks() {
+        list.put(loading(&table))?;
+        list.put(walk(&mut table))?;
     }
+    list.put_all(differences::rounds())?;
     for _ in 0..count {
         sequence(list, draw)?;
     }
@@ -27,7 +28,7 @@ pub fn write(list: &mut List, draw: &mut Draw, count: u64) -> io::Result<()> {
 fn sequence(list: &mut List, draw: &mut Draw) -> io::Result<()> {
     let mut table = if draw.once_in(3) {
         let table = loaded(draw);
-        load(list, &table)?;
+        list.put(loading(&table))?;
         table
     } else {
         let (line, made) = make(draw);
@@ -38,16 +39,33 @@ fn sequence(list: &mut List, draw: &mut Draw) -> io::Result<()> {
         }
     };
     for _ in 0..draw.within(1, 12) {
-        list.put(match draw.below(20) {
-            0..=6 => walk(&mut table),
-            7..=15 => {
-                let amount = extra(draw, &table);
-                bet(&mut table, amount, draw.once_in(3))
-            }
-            _ => ask(&table),
-        })?;
+        let asked = match draw.below(20) {
+            0..=6 => Asked::Walk,
+            7..=15 => Asked::Bet(extra(draw, &table), draw.once_in(3)),
+            _ => Asked::Queries,
+        };
+        list.put(asked.of(&mut table))?;
     }
     Ok(())
+}
+
+/// What round data is asked: `advance_action`, `do_bet`, the queries.
+#[derive(Clone, Copy)]
+pub enum Asked {
+    Walk,
+    Bet(f32, bool),
+    Queries,
+}
+
+impl Asked {
+    /// Asks it of the table and gives the line.
+    pub fn of(&self, table: &mut Table) -> Line {
+        match *self {
+            Asked::Walk => walk(table),
+            Asked::Bet(amount, forced) => bet(table, amount, forced),
+            Asked::Queries => ask(table),
+        }
+    }
 }
 
 /// `new` or `new_with_bets`, one in five with something that 01 refuses.
@@ -63,18 +81,36 @@ fn make(draw: &mut Draw) -> (Line, Option<Table>) {
             _ => active |= outside(draw, length),
         }
     }
-    let fits = (1..=MAX_SEATS).contains(&length);
-    let good = fits && to_act < length && sound::within(active, length);
-    let set = carry::set_of(active);
     if draw.once_in(2) {
-        let line = Line::new('N').token(length).float(min_raise).token(active).token(to_act);
-        made(line, good.then(|| RoundData::new(length, min_raise, set, to_act)))
+        new(length, min_raise, active, to_act)
     } else {
-        let bets: Vec<f32> = (0..length).map(|_| amounts::any(draw)).collect();
-        let line = Line::new('B').float(min_raise).token(active).token(to_act);
-        let line = line.token(length).floats(&bets);
-        made(line, good.then(|| RoundData::new_with_bets(min_raise, set, to_act, bets)))
+        let bets = (0..length).map(|_| amounts::any(draw)).collect();
+        new_with_bets(min_raise, active, to_act, bets)
     }
+}
+
+pub fn new(length: usize, min_raise: f32, active: u16, to_act: usize) -> (Line, Option<Table>) {
+    let line = Line::new('N').token(length).float(min_raise).token(active).token(to_act);
+    let ask = || RoundData::new(length, min_raise, carry::set_of(active), to_act);
+    made(line, are_good(length, active, to_act).then(ask))
+}
+
+pub fn new_with_bets(
+    min_raise: f32,
+    active: u16,
+    to_act: usize,
+    bets: Vec<f32>,
+) -> (Line, Option<Table>) {
+    let line = Line::new('B').float(min_raise).token(active).token(to_act);
+    let line = line.token(bets.len()).floats(&bets);
+    let good = are_good(bets.len(), active, to_act);
+    let ask = || RoundData::new_with_bets(min_raise, carry::set_of(active), to_act, bets);
+    made(line, good.then(ask))
+}
+
+fn are_good(length: usize, active: u16, to_act: usize) -> bool {
+    let fits = (1..=MAX_SEATS).contains(&length);
+    fits && to_act < length && sound::within(active, length)
 }
 
 fn made(line: Line, data: Option<RoundData>) -> (Line, Option<Table>) {
@@ -96,8 +132,8 @@ pub fn outside(draw: &mut Draw, length: usize) -> u16 {
     1 << draw.within(length.min(MAX_SEATS - 1), MAX_SEATS - 1)
 }
 
-fn load(list: &mut List, table: &Table) -> io::Result<()> {
-    list.put(Line::new('L').new_table(table))
+pub fn loading(table: &Table) -> Line {
+    Line::new('L').new_table(table)
 }
 
 /// Round data that no call makes. The seats active at its start are never looked

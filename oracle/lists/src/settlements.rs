@@ -3,31 +3,25 @@
 use std::io;
 
 use crate::draw::Draw;
-use crate::line::Line;
 use crate::list::List;
 use crate::table::Table;
-use crate::{broken, pots, settled_hands, settlement, sound};
+use crate::{broken, pots, settled_hands, settlement, step};
 
 pub fn write(list: &mut List, draw: &mut Draw, count: u64) -> io::Result<()> {
     for (mut table, ranks) in settled_hands::all() {
-        load(list, &table)?;
+        list.put(step::loading(&table))?;
         list.put(settlement::settle(&mut table, &ranks))?;
         list.put(settlement::settle(&mut table, &ranks))?;
     }
     for _ in 0..count {
         let mut table = drawn(draw);
-        load(list, &table)?;
+        list.put(step::loading(&table))?;
         settle(list, draw, &mut table)?;
         if draw.once_in(4) {
             settle(list, draw, &mut table)?;
         }
     }
     Ok(())
-}
-
-fn load(list: &mut List, table: &Table) -> io::Result<()> {
-    let letter = if sound::record(table) { 'T' } else { 'U' };
-    list.put(Line::new(letter).new_table(table))
 }
 
 /// Mostly a fair table; else one with up to two things spoiled, sound or not.

@@ -64,6 +64,12 @@ impl Step {
     }
 }
 
+/// The line that loads a record, sound or not.
+pub fn loading(table: &Table) -> Line {
+    let letter = if sound::record(table) { 'T' } else { 'U' };
+    Line::new(letter).new_table(table)
+}
+
 fn change(line: Line, table: &mut Table, step: impl Fn(&mut GameState)) -> Line {
     let mut state = carry::game_state(table);
     step(&mut state);
@@ -100,7 +106,7 @@ pub fn bet_on(state: &mut GameState, amount: f32, forced: bool) -> Result<f32, R
     state.do_bet(amount, forced).map_err(refusals::of_bet)
 }
 
-fn query(line: Line, state: &GameState, seat: usize) -> Line {
+pub fn query(line: Line, state: &GameState, seat: usize) -> Line {
     let line = line.answer().flag(state.is_raise_capped());
     let line = line.token(state.num_active_players()).token(state.num_all_in_players());
     let line = line.flag(state.is_complete()).token(state.to_act_idx());

@@ -6,13 +6,14 @@ use crate::draw::Draw;
 use crate::line::Line;
 use crate::list::List;
 use crate::step::Step;
-use crate::{broken, edges, hands, play, tables};
+use crate::{broken, differences, edges, hands, play, tables};
 
 pub fn write(list: &mut List, draw: &mut Draw, count: u64) -> io::Result<()> {
     for (mut table, step) in hands::bets() {
         list.put(Line::new('T').new_table(&table))?;
         list.put(step.take(&mut table))?;
     }
+    list.put_all(differences::steps())?;
     for _ in 0..count {
         match draw.below(13) {
             0 => on_unsound(list, draw)?,
