@@ -1,12 +1,12 @@
 // The second half of text 000: the record, by value, with its steps and queries; and the choice. The builder is a crate of its own.
-mod lists;
 pub mod parts;
 pub mod soundness;
 
 ghost use mathlib.Core.Path.{_≡_};
+ghost use Prim.Native.Nat.{_<_};
 ghost use Rattle.seats.specs.Bits.{countTo};
 ghost use Rattle.table.specs.Choice.{choiceOf, payingNothing};
-ghost use Rattle.table.specs.Pay.{betOf, foldOf, awardOf, rewardOf};
+ghost use Rattle.table.specs.Pay.{actor, betOf, foldOf, awardOf, paidStep, rewardOf, verdictOf};
 ghost use Rattle.table.specs.Queries.{isCapped, isComplete, atSeat, roundBetAt};
 ghost use Rattle.table.specs.Rounds.{advanceOf, advancedStep, completeOf, completedStep, freshData, isRound};
 ghost use Rattle.table.specs.Sound.{soundOf};
@@ -146,75 +146,100 @@ impl GameState {
         )
     }
 
-    // The seat to act bets the amount. One exit, and the record in one place: a by-value step costs what is copied.
+    // What the seat to act pays of the amount: 14 to 17, then 21.
+    fn verdict(self, amount: f32, is_forced: bool) -> BetSize
+        requires { ⌜ actor self < 16 ⌝ }
+        ensures { λ r. ⌜ r ≡ verdictOf self amount «is_forced» ⌝ }
+    {
+        let d = self.round_data;
+        let stacks = self.stacks;
+        let round_bets = d.player_bet;
+        let i = d.to_act_idx;
+        let p = round_bets[i];
+        let k = stacks[i];
+        let size = bets::validate(is_forced, amount, p, k, d.bet, d.min_raise);
+        parts::room_for(
+            size,
+            p,
+            d.bet,
+            is_forced,
+            d.total_bet_count,
+            d.total_raise_count,
+            d.forced_bet_count,
+        )
+    }
+
+    // The seat to act pays x. The lists are held apart while they change: an index into the record would keep it in memory.
+    fn paid(self, x: f32, is_forced: bool) -> BetStep
+        requires { ⌜ actor self < 16 ⌝ }
+        ensures { λ r. ⌜ r ≡ paidStep self x «is_forced» ⌝ }
+    {
+        let mut t = self;
+        let mut d = t.round_data;
+        let mut stacks = t.stacks;
+        let mut hand_bets = t.player_bet;
+        let mut round_bets = d.player_bet;
+        let i = d.to_act_idx;
+        let old = d.bet;
+        let y = round_bets[i] + x;
+        let left = stacks[i] - x;
+        let out = floats::is_near_zero(left);
+        let active = seats::bits::without_if(out, t.player_active.set, i);
+        let all_in = seats::bits::with_if(out, t.player_all_in.set, i);
+        let bet = floats::max(old, y);
+        let min_raise = floats::max(d.min_raise, bet - old);
+        let owing = parts::owing_after(
+            old < bet,
+            is_forced,
+            out,
+            d.needs_action.set,
+            t.player_active.set,
+            i,
+        );
+        let turn = rounds::walking::walk(owing, d.player_bet_len, i);
+        let total = paying::up_if(true, d.total_bet_count);
+        let raises = paying::up_if(paying::is_raise(is_forced, old, y), d.total_raise_count);
+        let forced = paying::up_if(is_forced, d.forced_bet_count);
+        stacks[i] = left;
+        hand_bets[i] = hand_bets[i] + x;
+        round_bets[i] = y;
+        d.min_raise = min_raise;
+        d.bet = bet;
+        d.player_bet = round_bets;
+        d.total_bet_count = total;
+        d.total_raise_count = raises;
+        d.forced_bet_count = forced;
+        d.needs_action.set = owing;
+        d.to_act_idx = turn.seat;
+        t.player_active.set = active;
+        t.player_all_in.set = all_in;
+        t.total_pot = t.total_pot + x;
+        t.stacks = stacks;
+        t.player_bet = hand_bets;
+        t.round_data = d;
+        BetStep {
+            answer: BetAnswer::Paid(x, turn.passed),
+            table: t,
+        }
+    }
+
+    // The seat to act bets the amount.
     pub fn do_bet(self, amount: f32, is_forced: bool) -> BetStep
         ensures { λ r. ⌜ r ≡ betOf self amount «is_forced» ⌝ }
     {
-        let mut t = self;
-        let i = t.round_data.to_act_idx;
-        let n = t.round_data.player_bet_len;
-        let active = t.player_active.set;
-        let all_in = t.player_all_in.set;
-        let owing = t.round_data.needs_action.set;
-        let start = t.round_data.starting_player_active.set;
-        let board = t.board;
-        let mut answer = BetAnswer::NotPaid(Refusal::Added(AddedError::BadRecord));
-        if soundness::is_sound(
-            t.num_players,
-            n,
-            t.dealer_idx,
-            i,
-            active,
-            all_in,
-            owing,
-            start,
-            t.board_len,
-            board,
-        ) {
-            let old = t.round_data.bet;
-            let m = t.round_data.min_raise;
-            let p = lists::at(&t.round_data.player_bet, i);
-            let k = t.stacks[i];
-            let total = t.round_data.total_bet_count;
-            let raise = t.round_data.total_raise_count;
-            let force = t.round_data.forced_bet_count;
-            match bets::validate(is_forced, amount, p, k, old, m) {
-                BetSize::Refused(r) => {
-                    answer = BetAnswer::NotPaid(r);
-                }
-                BetSize::Pays(x) => {
-                    let y = p + x;
-                    let left = k - x;
-                    let out = floats::is_near_zero(left);
-                    let b = floats::max(old, y);
-                    let least = floats::max(m, b - old);
-                    let owed = parts::owing_after(old < b, is_forced, out, owing, active, i);
-                    let w = rounds::walking::walk(owed, n, i);
-                    let up = paying::is_raise(is_forced, old, y);
-                    let room = !paying::counter_full(total, raise, force, is_forced, old, y);
-                    answer = parts::paid_if(room, x, w.passed);
-                    if room {
-                        let bets_made = paying::up_if(true, total);
-                        let raises = paying::up_if(up, raise);
-                        let forced_bets = paying::up_if(is_forced, force);
-                        lists::put(&mut t.round_data.player_bet, i, y);
-                        t.round_data.min_raise = least;
-                        t.round_data.bet = b;
-                        t.round_data.total_bet_count = bets_made;
-                        t.round_data.total_raise_count = raises;
-                        t.round_data.forced_bet_count = forced_bets;
-                        t.round_data.needs_action.set = owed;
-                        t.round_data.to_act_idx = w.seat;
-                        t.player_active.set = seats::bits::without_if(out, active, i);
-                        t.player_all_in.set = seats::bits::with_if(out, all_in, i);
-                        t.total_pot = t.total_pot + x;
-                        t.stacks[i] = left;
-                        t.player_bet[i] = t.player_bet[i] + x;
-                    }
-                }
-            }
+        if !self.is_sound() {
+            return BetStep {
+                answer: BetAnswer::NotPaid(Refusal::Added(AddedError::BadRecord)),
+                table: self,
+            };
         }
-        BetStep { answer, table: t }
+        match self.verdict(amount, is_forced) {
+            BetSize::Refused(r) => BetStep {
+                answer: BetAnswer::NotPaid(r),
+                table: self,
+            },
+            BetSize::Pays(x) => self.paid(x, is_forced),
+        }
     }
 
     // The seat to act leaves the hand.

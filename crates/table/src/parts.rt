@@ -1,26 +1,14 @@
-// The parts of a step that need no record: what a payment answers, who owes after it, a round's opening turn.
+// The parts of a step that need no record: whether a payment has room, who owes after it, a round's opening turn.
 ghost use mathlib.Core.Path.{_≡_};
 ghost use mathlib.Core.Bool.{cond};
-ghost use Rattle.refusals.specs.declared.Refusal.the-variants.{Added};
-ghost use Rattle.refusals.specs.declared.AddedError.the-variants.{CounterFull};
-ghost use Rattle.table.specs.declared.BetAnswer.the-variants.{Paid, NotPaid};
-ghost use Rattle.table.specs.Pay.{owingAfter};
+ghost use Rattle.table.specs.Pay.{owingAfter, roomFor};
 ghost use Rattle.table.specs.Rounds.{firstTurn};
-use crate::BetAnswer;
+use bets::BetSize;
 use refusals::AddedError;
 use refusals::Refusal;
+use rounds::paying;
 use rounds::walking;
 use rounds::walking::Reached;
-
-// A payment stands only if each counter that it raises has room.
-pub fn paid_if(room: bool, x: f32, passed: usize) -> BetAnswer
-    ensures { λ r. ⌜ r ≡ cond room (Paid x passed) (NotPaid (Added CounterFull)) ⌝ }
-{
-    if room {
-        return BetAnswer::Paid(x, passed);
-    }
-    BetAnswer::NotPaid(Refusal::Added(AddedError::CounterFull))
-}
 
 fn either(rose: bool, active: u16, owed: u16) -> u16
     ensures { λ r. ⌜ r ≡ cond rose active owed ⌝ }
@@ -49,4 +37,27 @@ pub fn first_turn(twice: bool, owing: u16, n: usize, dealer: usize) -> Reached
         };
     }
     w
+}
+
+// An amount that pays stands only if each counter that it raises has room; p is put in already, old is B.
+pub fn room_for(
+    size: BetSize,
+    p: f32,
+    old: f32,
+    forced: bool,
+    total: u8,
+    raise: u8,
+    force: u8,
+) -> BetSize
+    ensures { λ r. ⌜ r ≡ roomFor total raise force forced old p size ⌝ }
+{
+    match size {
+        BetSize::Refused(r) => BetSize::Refused(r),
+        BetSize::Pays(x) => {
+            if paying::counter_full(total, raise, force, forced, old, p + x) {
+                return BetSize::Refused(Refusal::Added(AddedError::CounterFull));
+            }
+            BetSize::Pays(x)
+        }
+    }
 }
