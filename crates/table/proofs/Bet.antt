@@ -11,9 +11,10 @@ use Rattle.refusals.specs.declared.AddedError.the-variants.{BadRecord}
 use Rattle.seats.specs.Bits.{withIf, withoutIf}
 use Rattle.bets.specs.declared.BetSize.{BetSize}
 use Rattle.bets.specs.declared.BetSize.the-variants.{Pays, Refused}
+use Rattle.rounds.specs.declared.RoundData.{RoundData}
 use Rattle.rounds.specs.declared.walking.Reached.{Reached}
 use Rattle.rounds.specs.Paying.{isRaise, upIf}
-use Rattle.rounds.specs.Steps.{after}
+use Rattle.rounds.specs.Steps.{after, newBet, paysOf}
 use Rattle.rounds.specs.Walk.{walkOf}
 use Rattle.rounds.specs.With.{withPaid, withTurn}
 use Rattle.table.specs.declared.GameState.{GameState}
@@ -42,21 +43,27 @@ module _ (t : GameState) (a : Float) (forced ok : Bool) (test : ok ≡ soundOf t
     bet-paid x v = rw (sym test, h, sym told, v)
 
 -- what the code makes of its callees' results is what the definition says of them
-pub made : (t : GameState) (x : Float) (forced out up : Bool) (b m : Float) (owed total raise force active allIn : ℕ) (w : Reached)
+pub round-made : (d : RoundData) (x : Float) (forced up : Bool) (b m : Float) (owed to total raise force : ℕ)
+    → b ≡ maxOf (d .bet) (after d x)
+    → m ≡ maxOf (d .«min_raise») (sub binary32 b (d .bet))
+    → total ≡ upIf true (d .«total_bet_count»)
+    → up ≡ isRaise forced (d .bet) (after d x)
+    → raise ≡ upIf up (d .«total_raise_count»)
+    → force ≡ upIf forced (d .«forced_bet_count»)
+    → withTurn (withPaid d m b (set (d .«player_bet») (d .«to_act_idx») (after d x)) total raise force) owed to ≡ withTurn (paysOf d x forced) owed to
+round-made d x forced up b m owed to total raise force e1 e2 e3 e4 e5 e6 = rw (e6, e5, e4, e3, e2, e1)
+
+pub made : (t : GameState) (x : Float) (forced out : Bool) (b : Float) (owed active allIn : ℕ) (w : Reached) (d : RoundData)
+    → b ≡ newBet (t .«round_data») x
     → out ≡ nearZero (leftOf t x)
-    → active ≡ withoutIf out (t .«player_active» .set) (actor t)
-    → allIn ≡ withIf out (t .«player_all_in» .set) (actor t)
-    → b ≡ maxOf (t .«round_data» .bet) (after (t .«round_data») x)
-    → m ≡ maxOf (t .«round_data» .«min_raise») (sub binary32 b (t .«round_data» .bet))
     → owed ≡ owingAfter (lt (t .«round_data» .bet) b) forced out (t .«round_data» .«needs_action» .set) (t .«player_active» .set) (actor t)
     → w ≡ walkOf owed (t .«round_data» .«player_bet_len») (actor t)
-    → total ≡ upIf true (t .«round_data» .«total_bet_count»)
-    → up ≡ isRaise forced (t .«round_data» .bet) (after (t .«round_data») x)
-    → raise ≡ upIf up (t .«round_data» .«total_raise_count»)
-    → force ≡ upIf forced (t .«round_data» .«forced_bet_count»)
+    → d ≡ withTurn (paysOf (t .«round_data») x forced) owed (w .seat)
+    → active ≡ withoutIf out (t .«player_active» .set) (actor t)
+    → allIn ≡ withIf out (t .«player_all_in» .set) (actor t)
     → paid x (w .passed)
     (withPayment t active allIn (add binary32 (t .«total_pot») x) (set (t .stacks) (actor t) (leftOf t x))
     (set (t .«player_bet») (actor t) (add binary32 (getD (t .«player_bet») (actor t) nan) x))
-    (withTurn (withPaid (t .«round_data») m b (set (t .«round_data» .«player_bet») (actor t) (after (t .«round_data») x)) total raise force) owed (w .seat)))
+    d)
     ≡ paidStep t x forced
-made t x forced out up b m owed total raise force active allIn w e1 e2 e3 e4 e5 e6 e7 e8 e9 e10 e11 = rw (e11, e10, e9, e8, e7, e6, e5, e4, e3, e2, e1)
+made t x forced out b owed active allIn w d e1 e2 e3 e4 e5 e6 e7 = rw (e7, e6, e5, e4, e3, e2, e1)

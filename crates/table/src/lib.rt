@@ -5,6 +5,8 @@ pub mod soundness;
 ghost use mathlib.Core.Path.{_≡_};
 ghost use Prim.Native.Nat.{_<_};
 ghost use Rattle.seats.specs.Bits.{countTo};
+ghost use Rattle.rounds.specs.Steps.{paysOf};
+ghost use Rattle.rounds.specs.With.{withTurn};
 ghost use Rattle.table.specs.Choice.{choiceOf, payingNothing};
 ghost use Rattle.table.specs.Pay.{actor, betOf, foldOf, awardOf, paidStep, rewardOf, verdictOf};
 ghost use Rattle.table.specs.Queries.{isCapped, isComplete, atSeat, roundBetAt};
@@ -169,54 +171,60 @@ impl GameState {
         )
     }
 
+    // The round data after the seat to act paid x, the owing seats and the seat to act next being these.
+    fn round_after(d: RoundData, x: f32, is_forced: bool, owing: u16, seat: usize) -> RoundData
+        requires { ⌜ d .«to_act_idx» < 16 ⌝ }
+        ensures { λ r. ⌜ r ≡ withTurn (paysOf d x «is_forced») owing seat ⌝ }
+    {
+        let mut after = d;
+        let mut bets = d.player_bet;
+        let i = d.to_act_idx;
+        let y = bets[i] + x;
+        let b = floats::max(d.bet, y);
+        let m = floats::max(d.min_raise, b - d.bet);
+        let total = paying::up_if(true, d.total_bet_count);
+        let raises = paying::up_if(paying::is_raise(is_forced, d.bet, y), d.total_raise_count);
+        let forced = paying::up_if(is_forced, d.forced_bet_count);
+        bets[i] = y;
+        after.player_bet = bets;
+        after.bet = b;
+        after.min_raise = m;
+        after.total_bet_count = total;
+        after.total_raise_count = raises;
+        after.forced_bet_count = forced;
+        after.needs_action.set = owing;
+        after.to_act_idx = seat;
+        after
+    }
+
     // The seat to act pays x. The lists are held apart while they change: an index into the record would keep it in memory.
     fn paid(self, x: f32, is_forced: bool) -> BetStep
         requires { ⌜ actor self < 16 ⌝ }
         ensures { λ r. ⌜ r ≡ paidStep self x «is_forced» ⌝ }
     {
         let mut t = self;
-        let mut d = t.round_data;
+        let d = t.round_data;
         let mut stacks = t.stacks;
         let mut hand_bets = t.player_bet;
-        let mut round_bets = d.player_bet;
+        let round_bets = d.player_bet;
         let i = d.to_act_idx;
-        let old = d.bet;
-        let y = round_bets[i] + x;
         let left = stacks[i] - x;
+        let rose = d.bet < floats::max(d.bet, round_bets[i] + x);
         let out = floats::is_near_zero(left);
-        let active = seats::bits::without_if(out, t.player_active.set, i);
-        let all_in = seats::bits::with_if(out, t.player_all_in.set, i);
-        let bet = floats::max(old, y);
-        let min_raise = floats::max(d.min_raise, bet - old);
-        let owing = parts::owing_after(
-            old < bet,
-            is_forced,
-            out,
-            d.needs_action.set,
-            t.player_active.set,
-            i,
-        );
+        let active = t.player_active.set;
+        let owing = parts::owing_after(rose, is_forced, out, d.needs_action.set, active, i);
         let turn = rounds::walking::walk(owing, d.player_bet_len, i);
-        let total = paying::up_if(true, d.total_bet_count);
-        let raises = paying::up_if(paying::is_raise(is_forced, old, y), d.total_raise_count);
-        let forced = paying::up_if(is_forced, d.forced_bet_count);
+        let round_data = GameState::round_after(d, x, is_forced, owing, turn.seat);
+        let still_active = seats::bits::without_if(out, active, i);
+        let all_in = seats::bits::with_if(out, t.player_all_in.set, i);
         stacks[i] = left;
         hand_bets[i] = hand_bets[i] + x;
-        round_bets[i] = y;
-        d.min_raise = min_raise;
-        d.bet = bet;
-        d.player_bet = round_bets;
-        d.total_bet_count = total;
-        d.total_raise_count = raises;
-        d.forced_bet_count = forced;
-        d.needs_action.set = owing;
-        d.to_act_idx = turn.seat;
-        t.player_active.set = active;
+        t.player_active.set = still_active;
         t.player_all_in.set = all_in;
         t.total_pot = t.total_pot + x;
         t.stacks = stacks;
         t.player_bet = hand_bets;
-        t.round_data = d;
+        t.round_data = round_data;
         BetStep {
             answer: BetAnswer::Paid(x, turn.passed),
             table: t,

@@ -11,9 +11,10 @@ use peatcloak::sys;
 use rs_poker::arena::{GameState, GameStateBuilder};
 
 const BETS: usize = 200;
-const TABLES: u64 = 500;
+/// Half a millisecond of bets: a measure that is short meets a quiet moment of the machine as often as any other.
+const TABLES: u64 = 100;
 /// A clone takes longer, and there are fewer.
-const FEWER: u64 = 100;
+const FEWER: u64 = 20;
 
 const NUMBERS: usize = 24;
 const FLOATS: usize = WORDS - NUMBERS;

@@ -6,7 +6,7 @@ use lists::table::{Table, WORDS};
 use peatcloak::sys;
 use rs_poker::arena::GameStateBuilder;
 
-const BUILDS: u64 = 10_000;
+const BUILDS: u64 = 4_000;
 const STACKS: [f32; 6] = [100.0, 200.0, 300.0, 400.0, 500.0, 600.0];
 const NUMBERS: usize = 24;
 

@@ -2,7 +2,7 @@
 
 use std::time::Instant;
 
-/// Does its work, of some milliseconds, and gives how many steps that was.
+/// Does its work, a script apart of a millisecond at most, and gives how many steps that was.
 pub type Measure = fn() -> u64;
 
 /// Nanoseconds for a step.
@@ -40,7 +40,7 @@ pub fn take(measures: &[Measure], rounds: usize) -> Vec<Figure> {
                 times.push(each);
             }
         }
-        if round % 50 == 0 {
+        if round % 100 == 0 {
             eprintln!("{round} of {rounds} rounds");
         }
     }

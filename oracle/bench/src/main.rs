@@ -12,7 +12,7 @@ use std::process::{Command, ExitCode};
 use figures::{Figure, Measure};
 
 /// Rounds through all that is measured; they take turns, so that a slow moment meets each.
-const ROUNDS: usize = 201;
+const ROUNDS: usize = 601;
 
 /// What the Rust does, which is also measured as a plain release.
 const THE_RUST: [Measure; 4] = [bets::rust_in_place, bets::rust_clone, builds::rust, scripts::rust];
