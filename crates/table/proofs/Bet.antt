@@ -7,19 +7,19 @@ use lib.Ieee.{Float, nan, binary32, add, sub, lt}
 use Rattle.floats.specs.Helpers.{maxOf, nearZero}
 use Rattle.refusals.specs.declared.Refusal.{Refusal}
 use Rattle.refusals.specs.declared.Refusal.the-variants.{Added}
-use Rattle.refusals.specs.declared.AddedError.the-variants.{BadRecord}
+use Rattle.refusals.specs.declared.AddedError.the-variants.{BadRecord, CounterFull}
 use Rattle.seats.specs.Bits.{withIf, withoutIf}
 use Rattle.bets.specs.declared.BetSize.{BetSize}
 use Rattle.bets.specs.declared.BetSize.the-variants.{Pays, Refused}
 use Rattle.rounds.specs.declared.RoundData.{RoundData}
 use Rattle.rounds.specs.declared.walking.Reached.{Reached}
-use Rattle.rounds.specs.Paying.{isRaise, upIf}
+use Rattle.rounds.specs.Paying.{counterFull, isRaise, upIf}
 use Rattle.rounds.specs.Steps.{after, newBet, paysOf}
 use Rattle.rounds.specs.Walk.{walkOf}
 use Rattle.rounds.specs.With.{withPaid, withTurn}
 use Rattle.table.specs.declared.GameState.{GameState}
 use Rattle.table.specs.Answers.{notPaid, paid}
-use Rattle.table.specs.Pay.{actor, leftOf, owingAfter, paidStep, settled, verdictOf, betOf}
+use Rattle.table.specs.Pay.{actor, leftOf, owingAfter, paidStep, roomFor, settled, verdictOf, betOf}
 use Rattle.table.specs.Sound.{soundOf}
 use Rattle.table.specs.With.{withPayment}
 
@@ -41,6 +41,16 @@ module _ (t : GameState) (a : Float) (forced ok : Bool) (test : ok ≡ soundOf t
     pub bet-paid : (x : Float) → size ≡ Pays x → paidStep t x forced ≡ betOf t a forced
     unfolding betOf settled
     bet-paid x v = rw (sym test, h, sym told, v)
+
+-- an amount that pays stands if no counter that it raises is full
+module _ (total raise force : ℕ) (forced : Bool) (b p x : Float) (size : BetSize) (pays : size ≡ Pays x) (full : Bool) (counted : full ≡ counterFull total raise force forced b (add binary32 p x)) where
+  pub no-room : full ≡ true → Refused (Added CounterFull) ≡ roomFor total raise force forced b p size
+  unfolding roomFor
+  no-room h = rw (pays, sym counted, h)
+
+  pub has-room : full ≡ false → Pays x ≡ roomFor total raise force forced b p size
+  unfolding roomFor
+  has-room h = rw (pays, sym counted, h)
 
 -- what the code makes of its callees' results is what the definition says of them
 pub round-made : (d : RoundData) (x : Float) (forced up : Bool) (b m : Float) (owed to total raise force : ℕ)

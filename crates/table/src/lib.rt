@@ -8,7 +8,7 @@ ghost use Rattle.seats.specs.Bits.{countTo};
 ghost use Rattle.rounds.specs.Steps.{paysOf};
 ghost use Rattle.rounds.specs.With.{withTurn};
 ghost use Rattle.table.specs.Choice.{choiceOf, payingNothing};
-ghost use Rattle.table.specs.Pay.{actor, betOf, foldOf, awardOf, paidStep, rewardOf, verdictOf};
+ghost use Rattle.table.specs.Pay.{actor, betOf, foldOf, awardOf, awarded, paidStep, rewardOf, verdictOf};
 ghost use Rattle.table.specs.Queries.{isCapped, isComplete, atSeat, roundBetAt};
 ghost use Rattle.table.specs.Rounds.{advanceOf, advancedStep, completeOf, completedStep, freshData, isRound};
 ghost use Rattle.table.specs.Sound.{soundOf};
@@ -292,20 +292,37 @@ impl GameState {
     }
 
     // Added to stack and winnings; the pot stays.
-    pub fn award(mut self, player_idx: usize, amount: f32) -> TableStep
+    fn awarded(self, i: usize, x: f32) -> GameState
+        requires { ⌜ i < 16 ⌝ }
+        ensures { λ r. ⌜ r ≡ awarded self i x ⌝ }
+    {
+        let mut t = self;
+        let mut stacks = t.stacks;
+        let mut winnings = t.player_winnings;
+        stacks[i] = stacks[i] + x;
+        winnings[i] = winnings[i] + x;
+        t.stacks = stacks;
+        t.player_winnings = winnings;
+        t
+    }
+
+    pub fn award(self, player_idx: usize, amount: f32) -> TableStep
         ensures { λ r. ⌜ r ≡ awardOf self «player_idx» amount ⌝ }
     {
-        let mut answer = StepAnswer::Refused(Refusal::Added(AddedError::BadRecord));
         if self.is_sound() {
-            answer = StepAnswer::Refused(Refusal::Added(AddedError::BadSeat));
             if player_idx < self.num_players {
-                self.stacks[player_idx] = self.stacks[player_idx] + amount;
-                self.player_winnings[player_idx] = self.player_winnings[player_idx] + amount;
-                answer = StepAnswer::Done(0);
+                return TableStep {
+                    answer: StepAnswer::Done(0),
+                    table: self.awarded(player_idx, amount),
+                };
             }
+            return TableStep {
+                answer: StepAnswer::Refused(Refusal::Added(AddedError::BadSeat)),
+                table: self,
+            };
         }
         TableStep {
-            answer,
+            answer: StepAnswer::Refused(Refusal::Added(AddedError::BadRecord)),
             table: self,
         }
     }
@@ -313,9 +330,11 @@ impl GameState {
     pub fn player_reward(self, player_idx: usize) -> AmountAnswer
         ensures { λ r. ⌜ r ≡ rewardOf self «player_idx» ⌝ }
     {
+        let stacks = self.stacks;
+        let starting = self.starting_stacks;
         if self.is_sound() {
             if player_idx < self.num_players {
-                return AmountAnswer::Is(self.stacks[player_idx] - self.starting_stacks[player_idx]);
+                return AmountAnswer::Is(stacks[player_idx] - starting[player_idx]);
             }
             return AmountAnswer::Unknown(Refusal::Added(AddedError::BadSeat));
         }
