@@ -3,8 +3,8 @@ use Prim.Native.Nat.{ℕ}
 use mathlib.Core.Path.{_≡_, sym, ap}
 use mathlib.Core.Bool.{Bool, true, false, not}
 use lib.ListN.{getD, set}
-use lib.Ieee.{Float, nan, binary32, add, sub, lt}
-use Rattle.floats.specs.Helpers.{maxOf, nearZero}
+use lib.Ieee.{Float, nan, binary32, add, lt}
+use Rattle.floats.specs.Helpers.{nearZero}
 use Rattle.refusals.specs.declared.Refusal.{Refusal}
 use Rattle.refusals.specs.declared.Refusal.the-variants.{Added}
 use Rattle.refusals.specs.declared.AddedError.the-variants.{BadRecord, CounterFull}
@@ -13,10 +13,10 @@ use Rattle.bets.specs.declared.BetSize.{BetSize}
 use Rattle.bets.specs.declared.BetSize.the-variants.{Pays, Refused}
 use Rattle.rounds.specs.declared.RoundData.{RoundData}
 use Rattle.rounds.specs.declared.walking.Reached.{Reached}
-use Rattle.rounds.specs.Paying.{counterFull, isRaise, upIf}
-use Rattle.rounds.specs.Steps.{after, newBet, paysOf}
+use Rattle.rounds.specs.Paying.{counterFull}
+use Rattle.rounds.specs.Steps.{newBet, paysOf}
 use Rattle.rounds.specs.Walk.{walkOf}
-use Rattle.rounds.specs.With.{withPaid, withTurn}
+use Rattle.rounds.specs.With.{withTurn}
 use Rattle.table.specs.declared.GameState.{GameState}
 use Rattle.table.specs.Answers.{notPaid, paid}
 use Rattle.table.specs.Pay.{actor, leftOf, owingAfter, paidStep, roomFor, settled, verdictOf, betOf}
@@ -53,16 +53,6 @@ module _ (total raise force : ℕ) (forced : Bool) (b p x : Float) (size : BetSi
   has-room h = rw (pays, sym counted, h)
 
 -- what the code makes of its callees' results is what the definition says of them
-pub round-made : (d : RoundData) (x : Float) (forced up : Bool) (b m : Float) (owed to total raise force : ℕ)
-    → b ≡ maxOf (d .bet) (after d x)
-    → m ≡ maxOf (d .«min_raise») (sub binary32 b (d .bet))
-    → total ≡ upIf true (d .«total_bet_count»)
-    → up ≡ isRaise forced (d .bet) (after d x)
-    → raise ≡ upIf up (d .«total_raise_count»)
-    → force ≡ upIf forced (d .«forced_bet_count»)
-    → withTurn (withPaid d m b (set (d .«player_bet») (d .«to_act_idx») (after d x)) total raise force) owed to ≡ withTurn (paysOf d x forced) owed to
-round-made d x forced up b m owed to total raise force e1 e2 e3 e4 e5 e6 = rw (e6, e5, e4, e3, e2, e1)
-
 pub made : (t : GameState) (x : Float) (forced out : Bool) (b : Float) (owed active allIn : ℕ) (w : Reached) (d : RoundData)
     → b ≡ newBet (t .«round_data») x
     → out ≡ nearZero (leftOf t x)

@@ -1,5 +1,7 @@
--- `table::GameState::round_after`: the round data is made field by field of the callees' results. Assumes nothing.
-use Rattle.table.proofs.Bet.{round-made}
+-- `table::GameState::round_after`: the payment is made as in `rounds`, then the turn is given. Assumes nothing.
+use mathlib.Core.Path.{ap}
+use Rattle.rounds.proofs.Bet.{made}
+use Rattle.rounds.specs.With.{withTurn}
 use borrow.Author.Needs.{needs}
 use Rattle.table.proofs.GameState.round_after.Statement.{statement}
 use Rattle.table.proofs.GameState.round_after.Tie as tie
@@ -43,7 +45,7 @@ returns c =
     let at-max2 = at-up-if .before in
     let at-max = at-max2 .before .before in
     let at-start = at-max .before .before in
-    round-made (at-start .args .d) (at-start .args .x) (at-start .args .is-forced) _ _ _ (at-start .args .owing) (at-start .args .seat) _ _ _ (at-max .max .ensures) (at-max2 .max2 .ensures) (at-up-if .up-if .ensures) (at-is-raise .is-raise .ensures) (at-up-if2 .up-if2 .ensures) (at-up-if3 .up-if3 .ensures)
+    ap (λ d. withTurn d (at-start .args .owing) (at-start .args .seat)) (made (at-start .args .d) (at-start .args .x) (at-start .args .is-forced) _ _ _ _ _ _ (at-max .max .ensures) (at-max2 .max2 .ensures) (at-up-if .up-if .ensures) (at-is-raise .is-raise .ensures) (at-up-if2 .up-if2 .ensures) (at-up-if3 .up-if3 .ensures))
 
 pub round-after-spec : {M : Type 1} → statement M
 round-after-spec =
