@@ -1,6 +1,6 @@
 -- The bet of round data, case by case; and the data made field by field is the definition's. Assumes nothing.
 use Prim.Native.Nat.{ℕ}
-use mathlib.Core.Path.{_≡_}
+use mathlib.Core.Path.{_≡_, sym}
 use mathlib.Core.Bool.{Bool, true, false}
 use lib.ListN.{set}
 use lib.Ieee.{Float, binary32, sub}
@@ -14,13 +14,15 @@ use Rattle.rounds.specs.Steps.{done, refused, after, paysOf, fullFor, be
 use Rattle.rounds.specs.With.{withPaid}
 
 module _ (d : RoundData) (x : Float) (forced : Bool) where
-  pub full : soundData d ≡ true → fullFor d x forced ≡ true → refused (Added CounterFull) d ≡ betOf d x forced
-  unfolding betOf
-  full s f = rw (s, f)
+  -- ok is what the soundness test gave, f what the counters' test gave
+  module _ (ok : Bool) (test : ok ≡ soundData d) (h : ok ≡ true) (f : Bool) (counted : f ≡ fullFor d x forced) where
+    pub full : f ≡ true → refused (Added CounterFull) d ≡ betOf d x forced
+    unfolding betOf
+    full g = rw (sym test, h, sym counted, g)
 
-  pub paid : soundData d ≡ true → fullFor d x forced ≡ false → done 0 (paysOf d x forced) ≡ betOf d x forced
-  unfolding betOf
-  paid s f = rw (s, f)
+    pub paid : f ≡ false → done 0 (paysOf d x forced) ≡ betOf d x forced
+    unfolding betOf
+    paid g = rw (sym test, h, sym counted, g)
 
   pub made : (b m : Float) (up : Bool) (total raise force : ℕ)
       → b ≡ maxOf (d .bet) (after d x)

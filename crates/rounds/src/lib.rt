@@ -3,11 +3,12 @@ pub mod paying;
 pub mod walking;
 
 ghost use mathlib.Core.Path.{_≡_};
+ghost use Prim.Native.Nat.{_<_};
 ghost use lib.Dec.{eqb};
 ghost use Rattle.seats.specs.Bits.{countTo};
 ghost use Rattle.rounds.specs.Order.{nextOf, roundNumber};
 ghost use Rattle.rounds.specs.Sound.{soundParts};
-ghost use Rattle.rounds.specs.Steps.{newOf, withBetsOf, advanceOf, betOf, currentBet, noData};
+ghost use Rattle.rounds.specs.Steps.{newOf, withBetsOf, advanceOf, betOf, currentBet, noData, paysOf};
 use refusals::AddedError;
 use refusals::Refusal;
 use seats::PlayerBitSet;
@@ -204,33 +205,50 @@ impl RoundData {
         }
     }
 
+    // The data after the seat to act put in x. The list is held apart while it changes.
+    fn paid(self, x: f32, is_forced: bool) -> RoundData
+        requires { ⌜ self .«to_act_idx» < 16 ⌝ }
+        ensures { λ r. ⌜ r ≡ paysOf self x «is_forced» ⌝ }
+    {
+        let mut d = self;
+        let mut bets = d.player_bet;
+        let at = d.to_act_idx;
+        let old = d.bet;
+        let y = bets[at] + x;
+        let b = floats::max(old, y);
+        let total = paying::up_if(true, d.total_bet_count);
+        let raises = paying::up_if(paying::is_raise(is_forced, old, y), d.total_raise_count);
+        let forced = paying::up_if(is_forced, d.forced_bet_count);
+        bets[at] = y;
+        d.min_raise = floats::max(d.min_raise, b - old);
+        d.bet = b;
+        d.player_bet = bets;
+        d.total_bet_count = total;
+        d.total_raise_count = raises;
+        d.forced_bet_count = forced;
+        d
+    }
+
     // The seat to act puts in an extra amount. There is no walk.
-    pub fn do_bet(mut self, extra_amount: f32, is_forced: bool) -> RoundStep
+    pub fn do_bet(self, extra_amount: f32, is_forced: bool) -> RoundStep
         ensures { λ r. ⌜ r ≡ betOf self «extra_amount» «is_forced» ⌝ }
     {
+        let bets = self.player_bet;
         let at = self.to_act_idx;
         if is_sound(self.player_bet_len, at, self.needs_action.set) {
-            let old = self.bet;
-            let y = self.player_bet[at] + extra_amount;
+            let y = bets[at] + extra_amount;
             let total = self.total_bet_count;
             let raise = self.total_raise_count;
             let force = self.forced_bet_count;
-            if paying::counter_full(total, raise, force, is_forced, old, y) {
+            if paying::counter_full(total, raise, force, is_forced, self.bet, y) {
                 return RoundStep {
                     answer: StepAnswer::Refused(Refusal::Added(AddedError::CounterFull)),
                     round_data: self,
                 };
             }
-            let b = floats::max(old, y);
-            self.min_raise = floats::max(self.min_raise, b - old);
-            self.bet = b;
-            self.player_bet[at] = y;
-            self.total_bet_count = paying::up_if(true, total);
-            self.total_raise_count = paying::up_if(paying::is_raise(is_forced, old, y), raise);
-            self.forced_bet_count = paying::up_if(is_forced, force);
             return RoundStep {
                 answer: StepAnswer::Done(0),
-                round_data: self,
+                round_data: self.paid(extra_amount, is_forced),
             };
         }
         RoundStep {
