@@ -208,8 +208,9 @@ impl GameState {
         let mut hand_bets = t.player_bet;
         let round_bets = d.player_bet;
         let i = d.to_act_idx;
+        let old = d.bet;
         let left = stacks[i] - x;
-        let rose = d.bet < floats::max(d.bet, round_bets[i] + x);
+        let rose = old < floats::max(old, round_bets[i] + x);
         let out = floats::is_near_zero(left);
         let active = t.player_active.set;
         let owing = parts::owing_after(rose, is_forced, out, d.needs_action.set, active, i);

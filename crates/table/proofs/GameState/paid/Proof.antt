@@ -63,7 +63,7 @@ returns c =
     let at-walk = at-round-after .before in
     let at-owing-after = at-walk .before in
     let at-is-near-zero = at-owing-after .before in
-    let at-max = at-is-near-zero .before .before in
+    let at-max = at-is-near-zero .before in
     let at-start = at-max .before .before .before .before .before in
     made (at-start .args .self) (at-start .args .x) (at-start .args .is-forced) _ _ _ _ _ _ _ (at-max .max .ensures) (at-is-near-zero .is-near-zero .ensures) (at-owing-after .owing-after .ensures) (at-walk .walk .ensures) (at-round-after .round-after .ensures) (at-without-if .without-if .ensures) (at-with-if .with-if .ensures)
 
