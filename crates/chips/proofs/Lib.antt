@@ -12,3 +12,4 @@ pub mod Whole
 pub mod Sums
 pub mod Lists
 pub mod Examples
+pub mod Promises
