@@ -8,3 +8,4 @@ pub mod LawsLong
 pub mod LawsWhole
 pub mod Sample
 pub mod Examples
+pub mod Promises

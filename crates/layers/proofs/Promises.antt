@@ -8,6 +8,7 @@ use mathlib.Core.Logic.{⊎-elim}
 use mathlib.Core.Bool.{Bool, true, false}
 use mathlib.Core.List.{List}
 use lib.ListN.{length, getD-replicate, List·getD-eq-default}
+use Rattle.refusals.proofs.OneResult.{OneResult, same, only}
 use Rattle.seats.specs.Bits.{has}
 use Rattle.seats.proofs.First.{either, lt-or-le}
 use Rattle.amounts.proofs.Filled.{filled-at, filled-long}
@@ -16,6 +17,7 @@ use Rattle.chips.proofs.Sums.{sum-same}
 use Rattle.layers.specs.declared.Hand.{Hand}
 use Rattle.layers.specs.Sharing.{ahead}
 use Rattle.layers.specs.Settlement.{rank, contends, potOf, holds, reached, wins, winners, share, award, isPayable, nothing, awardsOf, awarded}
+use Rattle.layers.proofs as crate
 use Rattle.layers.proofs.Bools.{surely, never}
 use Rattle.layers.proofs.Levels.{contends-in}
 use Rattle.layers.proofs.Payable.{payable}
@@ -23,15 +25,12 @@ use Rattle.layers.proofs.Sharing.{share-near, share-order}
 use Rattle.layers.proofs.Whole.{awards-whole, outsider, award-le}
 use Rattle.layers.proofs.Winning.{best-most, winner-reached, winner-best, has-winners, loser}
 
--- ---- one result
-unique : {A : Type 0} {r s d : A} → r ≡ d → s ≡ d → r ≡ s
-unique p q = p ∙ sym q
+-- ---- one result: any pair that the `ensures` of a public function allows is equal
+pub is-payable : OneResult crate.is_payable.ended crate.is_payable.Reads.Learnt
+is-payable κs a x y = only same
 
-pub one-verdict : (h : Hand) (r s : Bool) → r ≡ isPayable h → s ≡ isPayable h → r ≡ s
-one-verdict h r s p q = unique p q
-
-pub one-award : (h : Hand) (r s : List ℕ) → r ≡ awardsOf h → s ≡ awardsOf h → r ≡ s
-one-award h r s p q = unique p q
+pub awards : OneResult crate.awards.ended crate.awards.Reads.Learnt
+awards κs a x y = only same
 
 -- how many winners of the layer under u come ahead of seat i
 abbrev pub comes : Hand → ℕ → ℕ → ℕ

@@ -20,3 +20,4 @@ pub mod Moves
 pub mod Awards
 pub mod Demand
 pub mod Sample
+pub mod Promises

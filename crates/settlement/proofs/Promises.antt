@@ -7,6 +7,7 @@ use mathlib.Core.List.{List}
 use mathlib.Core.Bool.{true}
 use lib.ListN.{getD, length}
 use lib.Ieee.{nan}
+use Rattle.refusals.proofs.OneResult.{OneResult, same, only}
 use Rattle.table.specs.declared.GameState.{GameState}
 use Rattle.table.specs.Sound.{soundOf}
 use Rattle.table.specs.With.{withAward}
@@ -25,14 +26,15 @@ use Rattle.settlement.specs.declared.SettleAnswer.the-variants.{Paid}
 use Rattle.settlement.specs.declared.Settled.{Settled}
 use Rattle.settlement.specs.Hand.{chipsAt, handOf}
 use Rattle.settlement.specs.Settlement.{raisedAll, settledOf}
+use Rattle.settlement.proofs as crate
 use Rattle.settlement.proofs.Accepted.{Accepted, accepted}
 use Rattle.settlement.proofs.Raised as raising
 use Rattle.settlement.proofs.Unpaid as unpaid
 use Rattle.settlement.proofs.Whole.{pot-is, long-enough}
 
--- two results that the contract of `settle` allows are equal
-pub one-settlement : (t : GameState) (ranks : List ℕ) (r s : Settled) → r ≡ settledOf t ranks → s ≡ settledOf t ranks → r ≡ s
-one-settlement t ranks r s p q = p ∙ sym q
+-- any pair of results that the `ensures` of `settle` allows is equal
+pub settle : OneResult crate.settle.ended crate.settle.Reads.Learnt
+settle κs a x y = only same
 
 -- the record after, and what a seat is awarded
 abbrev pub after : GameState → List ℕ → GameState
