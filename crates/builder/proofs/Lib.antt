@@ -1,2 +1,3 @@
 pub mod Building
 pub mod LawsSound
+pub mod Promises

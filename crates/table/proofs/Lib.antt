@@ -4,4 +4,5 @@ pub mod LawsBack
 pub mod LawsOrder
 pub mod LawsPlaces
 pub mod LawsSound
+pub mod Promises
 pub mod Sound
