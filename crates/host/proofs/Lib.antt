@@ -8,4 +8,5 @@ pub mod LawsRun
 pub mod LawsStands
 pub mod LawsStep
 pub mod Made
+pub mod Promises
 pub mod Rounds
