@@ -68,14 +68,14 @@ pub current-round-min-raise : OneResult crate.GameState.current_round_min_raise.
 current-round-min-raise κs a x y = only same
 
 -- ---- src/parts.rt
-pub paid-if : OneResult crate.parts.paid_if.ended crate.parts.paid_if.Reads.Learnt
-paid-if κs a x y = only same
-
 pub owing-after : OneResult crate.parts.owing_after.ended crate.parts.owing_after.Reads.Learnt
 owing-after κs a x y = only same
 
 pub first-turn : OneResult crate.parts.first_turn.ended crate.parts.first_turn.Reads.Learnt
 first-turn κs a x y = only same
+
+pub room-for : OneResult crate.parts.room_for.ended crate.parts.room_for.Reads.Learnt
+room-for κs a x y = only same
 
 -- ---- src/soundness.rt
 pub soundness-is-sound : OneResult crate.soundness.is_sound.ended crate.soundness.is_sound.Reads.Learnt
