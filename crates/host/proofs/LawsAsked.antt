@@ -28,8 +28,7 @@ use Rattle.host.specs.Places.{tableAt, standsIn}
 use Rattle.host.specs.Asking.{rewardOn, amountAfter, amountsAsked, answersAsked, roomToTell, isAsked, askedNumber, amountsTold, answersTold}
 use Rattle.host.specs.Steps.{floatsAfter, numbersAfter}
 use Rattle.host.specs.Settling.{paidAs, paidStep, roomToPay, settledAt, settleOn, rewardsTold, rewardsAfter}
-use Rattle.host.proofs.LawsBuild.{split}
-use Rattle.host.proofs.LawsStep.{room-of, Answered, same-step, refused-step}
+use Rattle.host.proofs.LawsStep.{split, room-of, Answered, same-step, refused-step}
 
 -- a settlement by its answer
 pub paid-as : (s : Settled) → s .answer ≡ Paid → done 0 (s .table) ≡ paidStep s

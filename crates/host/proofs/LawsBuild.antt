@@ -1,9 +1,9 @@
 -- A build into the slices: the room that a test of it finds, and 19 with nothing written where the slices tell no builder. Assumes nothing.
 use Prim.Native.Nat.{ℕ, _≤_}
-use mathlib.Core.Path.{_≡_, refl, sym, subst}
+use mathlib.Core.Path.{_≡_, refl}
 use mathlib.Core.Bool.{Bool, true, false, _&&_}
 use mathlib.Core.List.{List}
-use lib.Dec.{T, leb→le}
+use lib.Dec.{leb→le}
 use lib.ListN.{length}
 use lib.Ieee.{Float}
 use Rattle.refusals.specs.declared.Refusal.{Refusal}
@@ -16,11 +16,7 @@ use Rattle.builder.specs.declared.BuildStep.{BuildStep}
 use Rattle.builder.specs.Build.{buildOf}
 use Rattle.host.specs.Places.{tableAt}
 use Rattle.host.specs.Building.{roomTests, roomToBuild, tells, builderAt, builtAs, builtStep, buildOn}
-use Rattle.host.proofs.LawsStep.{Answered, same-step, refused-step}
-
-pub split : (a b : Bool) → a && b ≡ true → (a ≡ true) × (b ≡ true)
-split true b e = (refl, e)
-split false b e = absurd (subst T (sym e) tt)
+use Rattle.host.proofs.LawsStep.{split, Answered, same-step, refused-step}
 
 pub room-built : (f n a g : ℕ) → roomToBuild f n a g ≡ true → (88 ≤ f) × (24 ≤ n) × (3 ≤ a) × (16 ≤ g)
 unfolding roomToBuild

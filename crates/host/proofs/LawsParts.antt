@@ -25,6 +25,7 @@ use Rattle.rounds.specs.declared.StepAnswer.the-variants.{Done, Refused}
 use Rattle.rounds.specs.declared.AmountAnswer.{AmountAnswer}
 use Rattle.rounds.specs.Steps.{numberOf, done, refused, currentBet, amountOf, amountNumber}
 use Rattle.host.proofs.LawsLaid.{laid-long}
+use Rattle.host.proofs.LawsStep.{split}
 use Rattle.host.specs.Places.{roomFor, dataAt}
 use Rattle.host.specs.Laid.{laidList, wordOf, flagOf}
 use Rattle.host.specs.Parts.{dataFits, dataStandsIn, dataOn, roundFloats, roundNumbers, roundFloatsGiven, roundNumbersGiven, roundFloatsAfter, roundNumbersAfter, canTell, toldAmounts, toldAnswers}
@@ -70,16 +71,12 @@ unfolding toldAnswers
 answers-told d bs a n n′ flag number is e1 e2 e3 e4 e5 e6 = rw (e6, e5, e4, e3, e2, e1, count-word (d .«needs_action» .set))
 
 -- ---- the tests
-pub both : (a b : Bool) → a && b ≡ true → (a ≡ true) × (b ≡ true)
-both true b e = (refl, e)
-both false b e = absurd (subst T (sym e) tt)
-
 at-least : (k n : ℕ) → leb k n ≡ true → k ≤ n
 at-least k n e = leb→le _ _ (subst T (sym e) tt)
 
 pub data-room : (fs : List Float) (ns : List ℕ) → dataStandsIn fs ns ≡ true → (88 ≤ length fs) × (24 ≤ length ns)
 data-room fs ns e =
-    let r = both (leb 88 (length fs)) (leb 24 (length ns)) (both (roomFor (length fs) (length ns)) (dataFits ns) e .0) in
+    let r = split (leb 88 (length fs)) (leb 24 (length ns)) (split (roomFor (length fs) (length ns)) (dataFits ns) e .0) in
     (at-least _ _ (r .0), at-least _ _ (r .1))
 
 module _ (fs : List Float) (ns : List ℕ) where
@@ -126,8 +123,8 @@ module _ (fs : List Float) (ns : List ℕ) where
 
     pub tell-room : canTell fs ns xs bs ≡ true → (dataStandsIn fs ns ≡ true) × ((1 ≤ length xs) × (3 ≤ length bs))
     tell-room e =
-        let p = both (dataStandsIn fs ns) (leb 1 (length xs) && leb 3 (length bs)) e in
-        let r = both (leb 1 (length xs)) (leb 3 (length bs)) (p .1) in
+        let p = split (dataStandsIn fs ns) (leb 1 (length xs) && leb 3 (length bs)) e in
+        let r = split (leb 1 (length xs)) (leb 3 (length bs)) (p .1) in
         (p .0, (at-least _ _ (r .0), at-least _ _ (r .1)))
 
     pub told : (xs′ : List Float) (bs′ : List ℕ) → canTell fs ns xs bs ≡ true → xs′ ≡ toldAmounts (dataAt fs ns) xs → bs′ ≡ toldAnswers (dataAt fs ns) bs → Told 0 xs′ bs′

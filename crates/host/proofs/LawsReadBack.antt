@@ -27,7 +27,7 @@ use Rattle.table.proofs.Sound.{Sound, sound}
 use Rattle.host.specs.Places.{wordAt, setAt, byteAt, roundOf, floatAt, sixteenAt, boardAt, dataAt, tableAt}
 use Rattle.host.specs.Laid.{laidList, wordOf, flagOf, numbersOf, laidNumbers, amountsOf, laidFloats}
 use Rattle.host.proofs.LawsLaid.{laid-long}
-use Rattle.host.proofs.LawsParts.{both}
+use Rattle.host.proofs.LawsStep.{split}
 use Rattle.host.proofs.LawsRead.{sixteen-long, sixteen-read}
 use Rattle.host.proofs.LawsStands.{set-fits}
 
@@ -103,7 +103,7 @@ five-back (a ∷ b ∷ c ∷ d ∷ e ∷ f ∷ r) h = absurd (omega arith)
 
 few : (n : ℕ) (b : List ℕ) → boardOk n b ≡ true → n ≤ 5
 unfolding boardOk
-few n b e = leb-true n 5 (both (leb n 5) (cardsOk n b) e .0)
+few n b e = leb-true n 5 (split (leb n 5) (cardsOk n b) e .0)
 
 module _ (t : GameState) (paid : Float) (passed : ℕ) (fs : List Float) (ns : List ℕ) (long : 88 ≤ length fs) (longs : 24 ≤ length ns) where
   -- the single amounts laid, then list after list

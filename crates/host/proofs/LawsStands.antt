@@ -34,9 +34,8 @@ use Rattle.table.proofs.LawsSound.{bet-sound}
 use Rattle.host.specs.Places.{wordAt, setAt, byteAt, flagAt, roundAt, roundOf, floatAt, sixteenAt, boardAt, tableAt, standsIn}
 use Rattle.host.specs.Laid.{wordOf, floatsWith, numbersWith}
 use Rattle.host.specs.Steps.{floatsPut, numbersPut, floatsBet, numbersBet, betOn}
-use Rattle.host.proofs.LawsParts.{both}
 use Rattle.host.proofs.LawsRead.{sixteen-long, sixteen-read, sixteen-set}
-use Rattle.host.proofs.LawsStep.{room-of, seat-of, bet-bad, bet-refused, bet-paid, on-bet}
+use Rattle.host.proofs.LawsStep.{split, room-of, seat-of, bet-bad, bet-refused, bet-paid, on-bet}
 
 -- ---- a place after a store
 module _ {A : Type 0} (d : A) where
@@ -236,7 +235,7 @@ module _ (fs : List Float) (ns : List ℕ) (i : ℕ) (pot b m paid stack bet y :
 
 -- ---- what a bet stores fits its place
 raised-low : (t u : Bool) (c : ℕ) → t && ltb c 255 ≡ u → c < 256 → cond u (c + 1) c < 256
-raised-low t true c e h = let l = ltb-true c 255 (both t (ltb c 255) e .1) in omega arith
+raised-low t true c e h = let l = ltb-true c 255 (split t (ltb c 255) e .1) in omega arith
 raised-low t false c e h = h
 
 up-byte : (t : Bool) (w : ℕ) → upIf t (w % 256) < 256

@@ -26,7 +26,8 @@ use Rattle.host.specs.Places.{roomFor, wordAt, wordsFit, standsIn, sound
 use Rattle.host.specs.Laid.{laidFloats, laidNumbers, betFloats, betNumbers}
 use Rattle.host.specs.Steps.{stepOn, floatsGiven, numbersGiven, floatsAfter, numbersAfter, floatsPut, numbersPut, floatsBet, numbersBet, betOn}
 
-split : (a b : Bool) → a && b ≡ true → (a ≡ true) × (b ≡ true)
+-- two tests that hold together
+pub split : (a b : Bool) → a && b ≡ true → (a ≡ true) × (b ≡ true)
 split true b e = (refl, e)
 split false b e = absurd (subst T (sym e) tt)
 
@@ -74,6 +75,15 @@ module _ (fs : List Float) (ns : List ℕ) where
 
   pub same-step : (s u : TableStep) (r : ℕ) (fs′ : List Float) (ns′ : List ℕ) → s ≡ u → Answered u r fs′ ns′ → Answered s r fs′ ns′
   same-step s u r fs′ ns′ e h = subst (λ (v : TableStep). Answered v r fs′ ns′) (sym e) h
+
+  -- a step that was made of the table, where a test b found one
+  pub on-step : (s u : TableStep) (b : Bool) (r : ℕ) (fs′ : List Float) (ns′ : List ℕ)
+      → b ≡ standsIn fs ns
+      → b ≡ true
+      → u ≡ s
+      → Answered u r fs′ ns′
+      → Answered (stepOn fs ns s) r fs′ ns′
+  on-step s u b r fs′ ns′ e f g h = same-step _ u r fs′ ns′ (on-stands s (sym e ∙ f) ∙ sym g) h
 
   pub refused-step : (r : Refusal) (t : GameState) (k : ℕ) → k ≡ Number.numberOf r → Answered (refused r t) k fs ns
   unfolding floatsGiven numbersGiven

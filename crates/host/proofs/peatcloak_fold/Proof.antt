@@ -1,5 +1,5 @@
 -- `host::peatcloak_fold`: where a table stands, the step on it, laid. Assumes nothing.
-use Rattle.host.proofs.LawsStep.{room-of, same-step, on-stands, no-step}
+use Rattle.host.proofs.LawsStep.{room-of, on-step, no-step}
 use mathlib.Core.Path.{_∙_, sym}
 use borrow.Author.Needs.{needs}
 use Rattle.host.proofs.peatcloak_fold.Statement.{statement}
@@ -39,7 +39,7 @@ returns c =
     let at-if1 = at-table-at .before .before .before in
     let at-stands = at-if1 .before in
     let at-start = at-stands .before .before .before .before in
-    same-step (at-start .args .floats .now) (at-start .args .numbers .now) _ _ _ _ _ (on-stands (at-start .args .floats .now) (at-start .args .numbers .now) _ (sym (at-stands .stands .ensures) ∙ at-if1 .if1 .taken) ∙ sym (at-fold .fold .ensures ∙ rw (at-table-at .table-at .ensures))) (at-lay-step .lay-step .ensures)
+    on-step (at-start .args .floats .now) (at-start .args .numbers .now) _ _ _ _ _ _ (at-stands .stands .ensures) (at-if1 .if1 .taken) (at-fold .fold .ensures ∙ rw (at-table-at .table-at .ensures)) (at-lay-step .lay-step .ensures)
 
 same-length-3 : tie.Need-same-length-3
 same-length-3 c = search needs

@@ -1,5 +1,6 @@
 -- `host::round_parts::peatcloak_round_queries`: where round data stands and the lists have room, what is told of it. Assumes nothing.
-use Rattle.host.proofs.LawsParts.{both, data-room, tell-room, told, not-told}
+use Rattle.host.proofs.LawsParts.{data-room, tell-room, told, not-told}
+use Rattle.host.proofs.LawsStep.{split}
 use mathlib.Core.Path.{_∙_, sym}
 use borrow.Author.Needs.{needs}
 use Rattle.host.proofs.round_parts.peatcloak_round_queries.Statement.{statement}
@@ -12,7 +13,7 @@ data-at-requires : tie.Need-data-at-requires
 data-at-requires c κs =
     let at-data-stands = c .before in
     let at-start = at-data-stands .before .before .before .before .before in
-    data-room (at-start .args .floats .now) (at-start .args .numbers .now) (sym (at-data-stands .data-stands .ensures) ∙ both _ _ (c .if1 .taken) .0)
+    data-room (at-start .args .floats .now) (at-start .args .numbers .now) (sym (at-data-stands .data-stands .ensures) ∙ split _ _ (c .if1 .taken) .0)
 
 tell-requires : tie.Need-tell-requires
 tell-requires c κs =
