@@ -22,7 +22,8 @@ bet-at-requires c κs =
     let at-if1 = at-is-sound .before .before in
     let at-stands = at-if1 .before in
     let at-start = at-stands .before .before .before .before in
-    ((room-of (at-start .args .floats .now) (at-start .args .numbers .now) (sym (at-stands .stands .ensures) ∙ at-if1 .if1 .taken)) .0, ((room-of (at-start .args .floats .now) (at-start .args .numbers .now) (sym (at-stands .stands .ensures) ∙ at-if1 .if1 .taken)) .1, sym (at-is-sound .is-sound .ensures) ∙ at-if2 .if2 .taken))
+    let r = room-of (at-start .args .floats .now) (at-start .args .numbers .now) (sym (at-stands .stands .ensures) ∙ at-if1 .if1 .taken) in
+    (r .0, (r .1, sym (at-is-sound .is-sound .ensures) ∙ at-if2 .if2 .taken))
 
 same-length : tie.Need-same-length
 same-length c = search needs

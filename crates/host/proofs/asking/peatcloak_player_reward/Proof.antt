@@ -14,7 +14,8 @@ table-at-requires : tie.Need-table-at-requires
 table-at-requires c κs =
     let at-is-room = c .before in
     let at-start = at-is-room .before .before .before .before in
-    ((one-room (length (at-start .args .out .now)) (at-start .args .floats .now) (at-start .args .numbers .now) (sym (at-is-room .is-room .ensures) ∙ c .if1 .taken)) .1, (one-room (length (at-start .args .out .now)) (at-start .args .floats .now) (at-start .args .numbers .now) (sym (at-is-room .is-room .ensures) ∙ c .if1 .taken)) .2)
+    let r = one-room (length (at-start .args .out .now)) (at-start .args .floats .now) (at-start .args .numbers .now) (sym (at-is-room .is-room .ensures) ∙ c .if1 .taken) in
+    (r .1, r .2)
 
 number-of-requires : tie.Need-number-of-requires
 number-of-requires c κs = search needs

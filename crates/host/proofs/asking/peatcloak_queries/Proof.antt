@@ -13,7 +13,8 @@ table-at-requires : tie.Need-table-at-requires
 table-at-requires c κs =
     let at-is-asked = c .before in
     let at-start = at-is-asked .before .before .before .before .before in
-    ((two-rooms (length (at-start .args .amounts .now)) (length (at-start .args .answers .now)) 6 7 (at-start .args .floats .now) (at-start .args .numbers .now) (sym (at-is-asked .is-asked .ensures) ∙ c .if1 .taken)) .2, (two-rooms (length (at-start .args .amounts .now)) (length (at-start .args .answers .now)) 6 7 (at-start .args .floats .now) (at-start .args .numbers .now) (sym (at-is-asked .is-asked .ensures) ∙ c .if1 .taken)) .3)
+    let r = two-rooms (length (at-start .args .amounts .now)) (length (at-start .args .answers .now)) 6 7 (at-start .args .floats .now) (at-start .args .numbers .now) (sym (at-is-asked .is-asked .ensures) ∙ c .if1 .taken) in
+    (r .2, r .3)
 
 number-of-requires : tie.Need-number-of-requires
 number-of-requires c κs = search needs

@@ -14,7 +14,8 @@ builder-of-requires c κs =
     let at-if1 = c .before .before in
     let at-is-told = at-if1 .before in
     let at-start = at-is-told .before .before .before .before .before .before .before .before .before in
-    ((told-room (at-start .args .floats .now) (at-start .args .numbers .now) (at-start .args .stacks .now) (at-start .args .player-bet .now) (at-start .args .board .now) (at-start .args .amounts .now) (at-start .args .given .now) (sym (at-is-told .is-told .ensures) ∙ at-if1 .if1 .taken)) .0, ((told-room (at-start .args .floats .now) (at-start .args .numbers .now) (at-start .args .stacks .now) (at-start .args .player-bet .now) (at-start .args .board .now) (at-start .args .amounts .now) (at-start .args .given .now) (sym (at-is-told .is-told .ensures) ∙ at-if1 .if1 .taken)) .1, ((told-room (at-start .args .floats .now) (at-start .args .numbers .now) (at-start .args .stacks .now) (at-start .args .player-bet .now) (at-start .args .board .now) (at-start .args .amounts .now) (at-start .args .given .now) (sym (at-is-told .is-told .ensures) ∙ at-if1 .if1 .taken)) .2, (told-room (at-start .args .floats .now) (at-start .args .numbers .now) (at-start .args .stacks .now) (at-start .args .player-bet .now) (at-start .args .board .now) (at-start .args .amounts .now) (at-start .args .given .now) (sym (at-is-told .is-told .ensures) ∙ at-if1 .if1 .taken)) .3)))
+    let r = told-room (at-start .args .floats .now) (at-start .args .numbers .now) (at-start .args .stacks .now) (at-start .args .player-bet .now) (at-start .args .board .now) (at-start .args .amounts .now) (at-start .args .given .now) (sym (at-is-told .is-told .ensures) ∙ at-if1 .if1 .taken) in
+    (r .0, (r .1, (r .2, r .3)))
 
 build-requires : tie.Need-build-requires
 build-requires c κs = search needs
@@ -27,7 +28,8 @@ lay-step-requires c κs =
     let at-if1 = c .before .before .before .before .before .before .before in
     let at-is-told = at-if1 .before in
     let at-start = at-is-told .before .before .before .before .before .before .before .before .before in
-    ((told-room (at-start .args .floats .now) (at-start .args .numbers .now) (at-start .args .stacks .now) (at-start .args .player-bet .now) (at-start .args .board .now) (at-start .args .amounts .now) (at-start .args .given .now) (sym (at-is-told .is-told .ensures) ∙ at-if1 .if1 .taken)) .0, (told-room (at-start .args .floats .now) (at-start .args .numbers .now) (at-start .args .stacks .now) (at-start .args .player-bet .now) (at-start .args .board .now) (at-start .args .amounts .now) (at-start .args .given .now) (sym (at-is-told .is-told .ensures) ∙ at-if1 .if1 .taken)) .1)
+    let r = told-room (at-start .args .floats .now) (at-start .args .numbers .now) (at-start .args .stacks .now) (at-start .args .player-bet .now) (at-start .args .board .now) (at-start .args .amounts .now) (at-start .args .given .now) (sym (at-is-told .is-told .ensures) ∙ at-if1 .if1 .taken) in
+    (r .0, r .1)
 
 same-length : tie.Need-same-length
 same-length c = search needs

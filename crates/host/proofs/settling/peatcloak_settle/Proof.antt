@@ -21,7 +21,8 @@ table-at-requires c κs =
     let at-if1 = c .before .before .before in
     let at-is-room = at-if1 .before in
     let at-start = at-is-room .before .before .before .before .before in
-    ((two-rooms (length (at-start .args .ranks .now)) (length (at-start .args .rewards .now)) 16 16 (at-start .args .floats .now) (at-start .args .numbers .now) (sym (at-is-room .is-room .ensures) ∙ at-if1 .if1 .taken)) .2, (two-rooms (length (at-start .args .ranks .now)) (length (at-start .args .rewards .now)) 16 16 (at-start .args .floats .now) (at-start .args .numbers .now) (sym (at-is-room .is-room .ensures) ∙ at-if1 .if1 .taken)) .3)
+    let r = two-rooms (length (at-start .args .ranks .now)) (length (at-start .args .rewards .now)) 16 16 (at-start .args .floats .now) (at-start .args .numbers .now) (sym (at-is-room .is-room .ensures) ∙ at-if1 .if1 .taken) in
+    (r .2, r .3)
 
 settle-requires : tie.Need-settle-requires
 settle-requires c κs = search needs
@@ -34,7 +35,8 @@ lay-step-requires c κs =
     let at-if1 = c .before .before .before .before .before .before .before .before .before in
     let at-is-room = at-if1 .before in
     let at-start = at-is-room .before .before .before .before .before in
-    ((two-rooms (length (at-start .args .ranks .now)) (length (at-start .args .rewards .now)) 16 16 (at-start .args .floats .now) (at-start .args .numbers .now) (sym (at-is-room .is-room .ensures) ∙ at-if1 .if1 .taken)) .2, (two-rooms (length (at-start .args .ranks .now)) (length (at-start .args .rewards .now)) 16 16 (at-start .args .floats .now) (at-start .args .numbers .now) (sym (at-is-room .is-room .ensures) ∙ at-if1 .if1 .taken)) .3)
+    let r = two-rooms (length (at-start .args .ranks .now)) (length (at-start .args .rewards .now)) 16 16 (at-start .args .floats .now) (at-start .args .numbers .now) (sym (at-is-room .is-room .ensures) ∙ at-if1 .if1 .taken) in
+    (r .2, r .3)
 
 lay-rewards-requires : tie.Need-lay-rewards-requires
 lay-rewards-requires c κs =
