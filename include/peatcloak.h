@@ -121,7 +121,8 @@ uint32_t peatcloak_queries(const float *floats, size_t floats_len, const uint32_
  * given (16): 0 stacks given (0 or 1), 1 big blind given, 2 small blind given, 3 ante given, 4 dealer given, 5 dealer,
  *   6 cap given, 7 capped (0: the cap given is none), 8 cap (below 256), 9 round given, 10 round (0 to 11),
  *   11 board given, 12 hands given, 13 count of hands, 14 player_bet given, 15 round data given
- * Round data, where given, is what stands at the round's places of floats and numbers before the call. */
+ * Round data, where given, is what stands at the round's places of floats and numbers before the call; every one of the
+ * numbers must then be in its range. */
 uint32_t peatcloak_build(float *floats, size_t floats_len, uint32_t *numbers, size_t numbers_len, const float *stacks,
                          size_t stacks_len, const float *player_bet, size_t player_bet_len, const uint8_t *board,
                          size_t board_len, const float *amounts, size_t amounts_len, const uint32_t *given,
