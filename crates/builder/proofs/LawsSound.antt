@@ -1,4 +1,4 @@
--- An accepted build is sound. Assumes nothing.
+-- An accepted build is sound: the builder's last test, 19, is soundness itself. Assumes nothing.
 use Prim.Native.Nat.{ℕ, zero, suc, _+_, min}
 use native.Mathlib.Omega.{arith}
 use mathlib.Core.Path.{_≡_, refl, ap}

@@ -1,4 +1,4 @@
--- What the code tests, as the definitions say it. Assumes nothing.
+-- What the code tests and computes of a NaN, of the sign bit and of an amount without its sign is what the definitions say. Assumes nothing.
 use lib.IntN.{ℤ}
 use Prim.Native.Nat.{ℕ, zero, suc, _+_, _*_, _^_, _/_, _-_, _<_, _≤_}
 use mathlib.Core.Path.{_≡_, refl, sym, ap, _∙_, subst}

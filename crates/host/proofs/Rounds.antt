@@ -1,4 +1,4 @@
--- The round of a number, one by one. Assumes nothing.
+-- The round of a number, for the loop that goes on to it from Starting: one round more, and the end. Assumes nothing.
 use Prim.Native.Nat.{ℕ, suc, _+_, _≤_}
 use native.Mathlib.Omega.{arith}
 use native.Mathlib.Numerals.{add-one}

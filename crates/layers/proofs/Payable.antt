@@ -1,4 +1,5 @@
--- What is known of a hand that can be paid out. Assumes nothing.
+-- What the test of a hand that can be paid out says, part by part: at most 16 seats, `first` among them, at most 8,000 chips, and a contender.
+-- Assumes nothing.
 use Prim.Native.Nat.{_≤_, _<_}
 use mathlib.Core.Path.{_≡_}
 use mathlib.Core.Bool.{true}

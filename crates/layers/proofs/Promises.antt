@@ -1,5 +1,5 @@
 -- What settlement may rely on: the awards of a payable hand add up to the pot, only contenders get any, and the winners of a layer share it evenly.
--- Assumes nothing.
+-- And any pair of results that the `ensures` of a public function allows is equal. Assumes nothing.
 use Prim.Native.Nat.{ℕ, _+_, _≤_, _<_}
 use native.Mathlib.Nat.{eq-zero-or-pos}
 use native.Mathlib.Omega.{arith}

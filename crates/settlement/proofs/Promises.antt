@@ -1,5 +1,5 @@
 -- What an accepted settlement promises: the awards are the pot and go to the winners of its layers, and whole chips being exact in binary32,
--- each stack and each winnings grows by its award. Assumes nothing.
+-- each stack and each winnings grows by its award. And any pair of results that the `ensures` of `settle` allows is equal. Assumes nothing.
 use Prim.Native.Nat.{ℕ, suc, _+_, _≤_, _<_}
 use native.Mathlib.Omega.{arith}
 use mathlib.Core.Path.{_≡_, sym, ap, _∙_}

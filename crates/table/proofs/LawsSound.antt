@@ -1,4 +1,4 @@
--- Steps keep a record sound. Assumes nothing.
+-- Steps keep a record sound: of a sound record each step, accepted or refused, gives a sound one. Assumes nothing.
 use Prim.Native.Nat.{ℕ, _<_, _^_}
 use native.Mathlib.Nat.{lt-of-lt-of-le}
 use mathlib.Core.Path.{_≡_, refl}

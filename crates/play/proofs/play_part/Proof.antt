@@ -1,4 +1,5 @@
--- `play::play_part`: the bytes that are written are those that the part laid. Assumes nothing.
+-- `play::play_part`: what the part laid fits the buffer, so that it can be handed to be written, and the answer is the part's. That it comes out is not
+-- said here. Assumes nothing.
 use borrow.Author.Needs.{needs}
 use Rattle.play.proofs.Fits.{part-fits, part-counts, part-is}
 use Rattle.play.proofs.play_part.Statement.{statement}
