@@ -4,29 +4,12 @@ ghost use mathlib.Core.Bool.{true};
 ghost use Prim.Native.Nat.{_≤_, _<_};
 ghost use lib.ListN.{length};
 ghost use Rattle.table.specs.Answers.{betNumber};
-ghost use Rattle.table.specs.Pay.{roomFor, verdictOf, betOf};
+ghost use Rattle.table.specs.Pay.{verdictOf, betOf};
 ghost use Rattle.host.specs.Places.{wordAt, tableAt, soundAt};
 ghost use Rattle.host.specs.Steps.{floatsBet, numbersBet};
 ghost use Rattle.host.specs.Laid.{floatsWith, numbersWith, floatsPaid, numbersPaid};
 use crate::words;
 use bets::BetSize;
-use refusals::AddedError;
-use refusals::Refusal;
-
-// A payment stands only if each counter that it raises has room: p is the payer's round bet, b the bet.
-fn if_room(size: BetSize, total: u8, raise: u8, force: u8, forced: bool, b: f32, p: f32) -> BetSize
-    ensures { λ r. ⌜ r ≡ roomFor total raise force forced b p size ⌝ }
-{
-    match size {
-        BetSize::Refused(r) => BetSize::Refused(r),
-        BetSize::Pays(x) => {
-            if rounds::paying::counter_full(total, raise, force, forced, b, p + x) {
-                return BetSize::Refused(Refusal::Added(AddedError::CounterFull));
-            }
-            BetSize::Pays(x)
-        }
-    }
-}
 
 // What the seat to act pays of the amount, or why not.
 pub fn verdict_at(floats: &[f32], numbers: &[u32], amount: f32, is_forced: bool) -> BetSize
@@ -43,7 +26,7 @@ pub fn verdict_at(floats: &[f32], numbers: &[u32], amount: f32, is_forced: bool)
     let raise = words::byte_of(numbers[11]);
     let force = words::byte_of(numbers[12]);
     let size = bets::validate(is_forced, amount, p, k, old, floats[5]);
-    if_room(size, total, raise, force, is_forced, old, p)
+    table::parts::room_for(size, p, old, is_forced, total, raise, force)
 }
 
 // What a payment changes of the floats: i is the payer.

@@ -56,8 +56,8 @@ shared-slice-read-validate c = search needs
 validate-requires : tie.Need-validate-requires
 validate-requires c κs = search needs
 
-if-room-requires : tie.Need-if-room-requires
-if-room-requires c κs = search needs
+room-for-requires : tie.Need-room-for-requires
+room-for-requires c κs = search needs
 
 returns : tie.Need-returns
 returns c =
@@ -67,7 +67,7 @@ returns c =
     let at-byte-of = at-byte-of2 .before .before in
     let at-number-of = at-byte-of .before .before .before .before .before in
     let at-start = at-number-of .before .before .before .before in
-    rw (c .if-room .ensures, at-validate .validate .ensures, at-byte-of .byte-of .ensures, at-byte-of2 .byte-of2 .ensures, at-byte-of3 .byte-of3 .ensures, at-number-of .number-of .ensures) (verdict-read (at-start .args .floats .now) (at-start .args .numbers .now) _ (at-start .pre .1 .1) _)
+    rw (c .room-for .ensures, at-validate .validate .ensures, at-byte-of .byte-of .ensures, at-byte-of2 .byte-of2 .ensures, at-byte-of3 .byte-of3 .ensures, at-number-of .number-of .ensures) (verdict-read (at-start .args .floats .now) (at-start .args .numbers .now) _ (at-start .pre .1 .1) _)
 
 pub verdict-at-spec : {M : Type 1} → statement M
 verdict-at-spec =
@@ -90,5 +90,5 @@ verdict-at-spec =
     byte-of-requires-3
     shared-slice-read-validate
     validate-requires
-    if-room-requires
+    room-for-requires
     returns)
