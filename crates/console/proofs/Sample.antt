@@ -11,7 +11,7 @@ use Rattle.bets.specs.Bet.{sized, betSize, sizeFor}
 use Rattle.seats.specs.Bits.{has, upTo, with, without, countTo, seatsWhere}
 use Rattle.seats.specs.First.{firstFrom}
 use Rattle.rounds.specs.Walk.{distance, walkOf}
-use Rattle.table.specs.Pay.{owingAfter, roomFor, settled, betOf, foldOf}
+use Rattle.table.specs.Pay.{owingAfter, roomFor, judged, betOf, foldOf}
 use Rattle.table.specs.Rounds.{firstTurn, advanceOf}
 use Rattle.table.specs.Sound.{cardsOk, boardOk, soundParts}
 use Rattle.builder.specs.Build.{smallBlindOf, dataFor, builtOf, amountsFault, listsFault, buildOf}
@@ -58,5 +58,5 @@ printed =
     ∷ []
 
 pub worked : playScript (text script) ≡ text printed
-unfolding sumTo allTo isWhole chipsIn allWhole sumChips mostTo anyTo ahead shareOf contends isLevel top levelBelow isLayer potOf putIn holds reached best wins share award isPayable awardsOf countedOf firstOf anyWon inChips verdictOf raised raisedAll rewardsOf countTo toUnsigned ofInt eq ne lt le add sub mul div isNan round units odd size climb span maxOf minOf signOf absOf tolOf nearZero filled sumOf aboveOf anyInvalid sized betSize sizeFor has upTo with without seatsWhere firstFrom distance walkOf smallBlindOf dataFor builtOf amountsFault listsFault buildOf cardsFrom owingAfter roomFor settled betOf foldOf firstTurn advanceOf cardsOk boardOk soundParts asked allDigits unpadded valueAfter isNumber digitsIn decimal amountText viewText lineText pieces lines allNumbers firsts lettered wordsOf amountsFrom openingOf needing ranked actOf settledOf amountOf viewOf atStart said after playLines playScript
+unfolding sumTo allTo isWhole chipsIn allWhole sumChips mostTo anyTo ahead shareOf contends isLevel top levelBelow isLayer potOf putIn holds reached best wins share award isPayable awardsOf countedOf firstOf anyWon inChips verdictOf raised raisedAll rewardsOf countTo toUnsigned ofInt eq ne lt le add sub mul div isNan round units odd size climb span maxOf minOf signOf absOf tolOf nearZero filled sumOf aboveOf anyInvalid sized betSize sizeFor has upTo with without seatsWhere firstFrom distance walkOf smallBlindOf dataFor builtOf amountsFault listsFault buildOf cardsFrom owingAfter roomFor judged betOf foldOf firstTurn advanceOf cardsOk boardOk soundParts asked allDigits unpadded valueAfter isNumber digitsIn decimal amountText viewText lineText pieces lines allNumbers firsts lettered wordsOf amountsFrom openingOf needing ranked actOf settledOf amountOf viewOf atStart said after playLines playScript
 worked = refl

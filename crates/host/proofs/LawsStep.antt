@@ -19,7 +19,7 @@ use Rattle.table.specs.declared.TableStep.{TableStep}
 use Rattle.table.specs.declared.BetStep.{BetStep}
 use Rattle.table.specs.Answers.{refused, done, notPaid, paid, betNumber}
 use Rattle.bets.specs.declared.BetSize.the-variants as BetSize
-use Rattle.table.specs.Pay.{verdictOf, settled, paidStep, betOf}
+use Rattle.table.specs.Pay.{verdictOf, judged, paidStep, betOf}
 use Rattle.table.specs.Sound.{soundOf}
 use Rattle.table.proofs.Sound.{sound}
 use Rattle.host.specs.Places.{roomFor, wordAt, wordsFit, standsIn, soundAt, tableAt}
@@ -48,11 +48,11 @@ module _ (t : GameState) (a : Float) (forced : Bool) where
   bet-bad s = rw s
 
   pub bet-refused : (r : Refusal) → soundOf t ≡ true → verdictOf t a forced ≡ BetSize.Refused r → notPaid r t ≡ betOf t a forced
-  unfolding betOf settled
+  unfolding betOf judged
   bet-refused r s v = rw (s, v)
 
   pub bet-paid : (x : Float) → soundOf t ≡ true → verdictOf t a forced ≡ BetSize.Pays x → paidStep t x forced ≡ betOf t a forced
-  unfolding betOf settled
+  unfolding betOf judged
   bet-paid x s v = rw (s, v)
 
 -- a step by its answer

@@ -22,7 +22,7 @@ use Rattle.chips.proofs.Value.{unsigned}
 use Rattle.chips.proofs.Amounts.{Means}
 use Rattle.table.specs.declared.GameState.{GameState}
 use Rattle.table.specs.Answers.{betNumber}
-use Rattle.table.specs.Pay.{foldOf, foldedStep, tablePaid, sizeOf, roomFor, settled, verdictOf, betOf}
+use Rattle.table.specs.Pay.{foldOf, foldedStep, tablePaid, sizeOf, roomFor, judged, verdictOf, betOf}
 use Rattle.table.specs.Sound.{soundOf}
 use Rattle.order.specs.Step.{isStake}
 
@@ -58,9 +58,9 @@ module _ (t : GameState) (S : soundOf t ≡ true) where
   fold-table = rw S
 
   pub bet-took : (a : Float) (u : GameState) → betNumber (betOf t a false .answer) ≡ 0 → betOf t a false .table ≡ u → Took t a u
-  unfolding betOf settled
+  unfolding betOf judged
   bet-took a u = rw S (took (verdictOf t a false) refl)
     where
-      took : (v : BetSize) → verdictOf t a false ≡ v → betNumber (settled t false v .answer) ≡ 0 → settled t false v .table ≡ u → Took t a u
+      took : (v : BetSize) → verdictOf t a false ≡ v → betNumber (judged t false v .answer) ≡ 0 → judged t false v .table ≡ u → Took t a u
       took (Refused r) e z q = absurd (numbered r z)
       took (Pays x) e z q = record { pays = x; size = room-pays _ _ _ _ _ _ _ x e; table = q }

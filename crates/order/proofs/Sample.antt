@@ -25,7 +25,7 @@ use Rattle.chips.specs.Sums.{sumTo, allTo}
 use Rattle.chips.specs.Whole.{isWhole, chipsIn, allWhole, sumChips}
 use Rattle.table.specs.declared.GameState.{GameState}
 use Rattle.table.specs.Answers.{betNumber}
-use Rattle.table.specs.Pay.{owingAfter, roomFor, settled, betOf, foldOf, awardOf}
+use Rattle.table.specs.Pay.{owingAfter, roomFor, judged, betOf, foldOf, awardOf}
 use Rattle.table.specs.Sound.{cardsOk, boardOk, soundParts}
 use Rattle.table.specs.With.{tableOf}
 use Rattle.order.specs.GoodOrder.{inGoodOrder, owingIn, chipsOf, wonBy}
@@ -76,7 +76,7 @@ asked =
     ∷ []
 
 met : allOf asked ≡ true
-unfolding asked start raised folded whole two inGoodOrder isStake awardsIn betOf settled roomFor sizeFor betSize sized foldOf awardOf owingAfter soundParts boardOk cardsOk walkOf distance firstFrom has without countTo allWhole isWhole chipsIn sumChips sumTo allTo largestOf nearZero maxOf minOf absOf signOf tolOf ofInt round units odd size span climb add sub sum neg mul lt le eq isNan
+unfolding asked start raised folded whole two inGoodOrder isStake awardsIn betOf judged roomFor sizeFor betSize sized foldOf awardOf owingAfter soundParts boardOk cardsOk walkOf distance firstFrom has without countTo allWhole isWhole chipsIn sumChips sumTo allTo largestOf nearZero maxOf minOf absOf signOf tolOf ofInt round units odd size span climb add sub sum neg mul lt le eq isNan
 met = refl
 
 facts : Each asked

@@ -19,7 +19,7 @@ use Rattle.rounds.specs.Walk.{walkOf}
 use Rattle.rounds.specs.With.{withTurn}
 use Rattle.table.specs.declared.GameState.{GameState}
 use Rattle.table.specs.Answers.{notPaid, paid}
-use Rattle.table.specs.Pay.{actor, leftOf, owingAfter, paidStep, roomFor, settled, verdictOf, betOf}
+use Rattle.table.specs.Pay.{actor, leftOf, owingAfter, paidStep, roomFor, judged, verdictOf, betOf}
 use Rattle.table.specs.Sound.{soundOf}
 use Rattle.table.specs.With.{withPayment}
 
@@ -35,11 +35,11 @@ module _ (t : GameState) (a : Float) (forced ok : Bool) (test : ok ≡ soundOf t
 
   module _ (h : ok ≡ true) (size : BetSize) (told : size ≡ verdictOf t a forced) where
     pub bet-refused : (r : Refusal) → size ≡ Refused r → notPaid r t ≡ betOf t a forced
-    unfolding betOf settled
+    unfolding betOf judged
     bet-refused r v = rw (sym test, h, sym told, v)
 
     pub bet-paid : (x : Float) → size ≡ Pays x → paidStep t x forced ≡ betOf t a forced
-    unfolding betOf settled
+    unfolding betOf judged
     bet-paid x v = rw (sym test, h, sym told, v)
 
 -- an amount that pays stands if no counter that it raises is full

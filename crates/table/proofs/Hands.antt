@@ -23,7 +23,7 @@ use Rattle.rounds.specs.With.{dataOf}
 use Rattle.table.specs.declared.GameState.{GameState}
 use Rattle.table.specs.declared.BetStep.{BetStep}
 use Rattle.table.specs.Answers.{betNumber, betPaid, betPassed}
-use Rattle.table.specs.Pay.{betOf, settled, roomFor, owingAfter}
+use Rattle.table.specs.Pay.{betOf, judged, roomFor, owingAfter}
 use Rattle.table.specs.Sound.{soundParts, boardOk, cardsOk}
 use Rattle.table.specs.With.{tableOf}
 
@@ -115,5 +115,5 @@ hands =
     ∷ []
 
 pub right : allOf hands ≡ true
-unfolding hands refuses pays-out walks same shown hand chips betOf settled roomFor owingAfter sizeFor betSize sized soundParts boardOk cardsOk roundParts advanceOf walkOf distance firstFrom has with without maxOf minOf absOf signOf tolOf nearZero ofInt eq lt le add sub mul isNan
+unfolding hands refuses pays-out walks same shown hand chips betOf judged roomFor owingAfter sizeFor betSize sized soundParts boardOk cardsOk roundParts advanceOf walkOf distance firstFrom has with without maxOf minOf absOf signOf tolOf nearZero ofInt eq lt le add sub mul isNan
 right = refl

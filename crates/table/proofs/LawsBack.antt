@@ -17,7 +17,7 @@ use Rattle.table.specs.declared.AgentAction.{AgentAction}
 use Rattle.table.specs.declared.AgentAction.the-variants.{Fold, Call, Bet, AllIn}
 use Rattle.table.specs.Answers.{betNumber, notPaid, done, refused}
 use Rattle.table.specs.Choice.{choiceOf, payingNothing, asBet}
-use Rattle.table.specs.Pay.{betOf, settled, verdictOf, foldOf, foldedStep, awardOf, awarded}
+use Rattle.table.specs.Pay.{betOf, judged, verdictOf, foldOf, foldedStep, awardOf, awarded}
 use Rattle.table.specs.Rounds.{advanceOf, advancedStep, completeOf, completedStep, isRound}
 use Rattle.table.specs.Sound.{soundOf}
 
@@ -36,14 +36,14 @@ pick P false x y p q = q
 accepted : (t : GameState) (s : TableStep) → numberOf (s .answer) ≡ 0 → Back t s
 accepted t s e h = absurd (h e)
 
-settled-back : (t : GameState) (forced : Bool) (v : BetSize) → BetBack t (settled t forced v)
-unfolding settled
-settled-back t forced (Refused r) h = refl
-settled-back t forced (Pays x) h = absurd (h refl)
+judged-back : (t : GameState) (forced : Bool) (v : BetSize) → BetBack t (judged t forced v)
+unfolding judged
+judged-back t forced (Refused r) h = refl
+judged-back t forced (Pays x) h = absurd (h refl)
 
 pub bet-back : (t : GameState) (a : Float) (forced : Bool) → BetBack t (betOf t a forced)
 unfolding betOf
-bet-back t a forced = pick (BetBack t) (soundOf t) _ _ (settled-back t forced (verdictOf t a forced)) (λ h. refl)
+bet-back t a forced = pick (BetBack t) (soundOf t) _ _ (judged-back t forced (verdictOf t a forced)) (λ h. refl)
 
 pub fold-back : (t : GameState) → Back t (foldOf t)
 unfolding foldOf

@@ -19,7 +19,7 @@ use Rattle.rounds.specs.Steps.{putIn, fullFor, numberOf, amountNumber}
 use Rattle.table.specs.declared.GameState.{GameState}
 use Rattle.table.specs.declared.TableStep.{TableStep}
 use Rattle.table.specs.Answers.{betNumber, notPaid, done, refused}
-use Rattle.table.specs.Pay.{stackOf, settled, roomFor, betOf, foldOf, foldedStep, awardOf, awarded, rewardOf}
+use Rattle.table.specs.Pay.{stackOf, judged, roomFor, betOf, foldOf, foldedStep, awardOf, awarded, rewardOf}
 use Rattle.table.specs.Rounds.{advanceOf, advancedStep, completeOf, completedStep, isRound}
 use Rattle.table.specs.Sound.{soundOf}
 
@@ -37,16 +37,16 @@ firstOf (t ∷ ts) = cond (t .holds) (t .number) (firstOf ts)
 
 -- ---- the bet
 -- what a size that stands comes to with room in the counters or without
-room-case : (t : GameState) (x : Float) (forced full : Bool) → betNumber (settled t forced (cond full (Refused (Added CounterFull)) (Pays x)) .answer) ≡ cond full 21 0
-unfolding settled
+room-case : (t : GameState) (x : Float) (forced full : Bool) → betNumber (judged t forced (cond full (Refused (Added CounterFull)) (Pays x)) .answer) ≡ cond full 21 0
+unfolding judged
 room-case t x forced true = refl
 room-case t x forced false = refl
 
 module _ (t : GameState) (x : Float) (total raise force : ℕ) (b p : Float) where
   bet-case : (s i c d m : Bool)
-      → betNumber (cond s (settled t false (roomFor total raise force false b p (giveIf i BetInvalidSize (giveIf c BetSizeDoesntCallSelf (giveIf d BetSizeDoesntCall (giveIf m RaiseSizeTooSmall (Pays x))))))) (notPaid (Added BadRecord) t) .answer)
+      → betNumber (cond s (judged t false (roomFor total raise force false b p (giveIf i BetInvalidSize (giveIf c BetSizeDoesntCallSelf (giveIf d BetSizeDoesntCall (giveIf m RaiseSizeTooSmall (Pays x))))))) (notPaid (Added BadRecord) t) .answer)
       ≡ firstOf (gives (not s) 19 ∷ gives i 14 ∷ gives c 15 ∷ gives d 16 ∷ gives m 17 ∷ gives (counterFull total raise force false b (add binary32 p x)) 21 ∷ [])
-  unfolding settled roomFor
+  unfolding judged roomFor
   bet-case false i c d m = refl
   bet-case true true c d m = refl
   bet-case true false true d m = refl
@@ -55,7 +55,7 @@ module _ (t : GameState) (x : Float) (total raise force : ℕ) (b p : Float) whe
   bet-case true false false false false = room-case t x false (counterFull total raise force false b (add binary32 p x))
 
   forced-case : (s : Bool)
-      → betNumber (cond s (settled t true (roomFor total raise force true b p (Pays x))) (notPaid (Added BadRecord) t) .answer)
+      → betNumber (cond s (judged t true (roomFor total raise force true b p (Pays x))) (notPaid (Added BadRecord) t) .answer)
       ≡ firstOf (gives (not s) 19 ∷ gives (counterFull total raise force true b (add binary32 p x)) 21 ∷ [])
   unfolding roomFor
   forced-case false = refl

@@ -21,7 +21,7 @@ use Rattle.table.specs.declared.AgentAction.the-variants.{Fold, Call, Be
 use Rattle.table.specs.declared.BetStep.{BetStep}
 use Rattle.table.specs.declared.TableStep.{TableStep}
 use Rattle.table.specs.Choice.{choiceOf}
-use Rattle.table.specs.Pay.{actor, leftOf, tablePaid, settled, verdictOf, betOf, foldedStep, foldOf, awarded, awardOf}
+use Rattle.table.specs.Pay.{actor, leftOf, tablePaid, judged, verdictOf, betOf, foldedStep, foldOf, awarded, awardOf}
 use Rattle.table.specs.Rounds.{advanceOf, completeOf, isRound, freshData, advancedStep, completedStep}
 use Rattle.table.specs.Sound.{soundOf}
 use Rattle.table.specs.With.{withRound}
@@ -84,10 +84,10 @@ BetKept t s = Kept t (s .table)
 abbrev StepKept : GameState → TableStep → Type 0
 StepKept t s = Kept t (s .table)
 
-settled-kept : (t : GameState) (forced : Bool) (v : BetSize) → actor t < t .«num_players» → Kept t (settled t forced v .table)
-unfolding settled
-settled-kept t forced (Refused r) h = untouched t
-settled-kept t forced (Pays x) h = paid-kept t x forced h
+judged-kept : (t : GameState) (forced : Bool) (v : BetSize) → actor t < t .«num_players» → Kept t (judged t forced v .table)
+unfolding judged
+judged-kept t forced (Refused r) h = untouched t
+judged-kept t forced (Pays x) h = paid-kept t x forced h
 
 -- a test and what holds where it does
 tested : (b : Bool) {A : Type 0} (P : A → Type 0) (x y : A) → (b ≡ true → P x) → P y → P (cond b x y)
@@ -96,7 +96,7 @@ tested false P x y p q = q
 
 pub bet-kept : (t : GameState) (a : Float) (forced : Bool) → Kept t (betOf t a forced .table)
 unfolding betOf
-bet-kept t a forced = tested (soundOf t) (BetKept t) _ _ (λ e. settled-kept t forced (verdictOf t a forced) (sound t e .acts)) (untouched t)
+bet-kept t a forced = tested (soundOf t) (BetKept t) _ _ (λ e. judged-kept t forced (verdictOf t a forced) (sound t e .acts)) (untouched t)
 
 pub folded-kept : (t : GameState) → Kept t (foldOf t .table)
 unfolding foldOf

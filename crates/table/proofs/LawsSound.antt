@@ -23,7 +23,7 @@ use Rattle.table.specs.declared.AgentAction.the-variants.{Fold, Call, Be
 use Rattle.table.specs.declared.BetStep.{BetStep}
 use Rattle.table.specs.declared.TableStep.{TableStep}
 use Rattle.table.specs.Choice.{choiceOf}
-use Rattle.table.specs.Pay.{actor, leftOf, owedAfter, owingAfter, turnAfter, tablePaid, settled, verdictOf, betOf, foldedStep, foldOf, awarded, awardOf}
+use Rattle.table.specs.Pay.{actor, leftOf, owedAfter, owingAfter, turnAfter, tablePaid, judged, verdictOf, betOf, foldedStep, foldOf, awarded, awardOf}
 use Rattle.table.specs.Rounds.{advanceOf, completeOf, isRound, headsUpPreflop, firstTurn, openingTurn, freshData, advancedStep, completedStep}
 use Rattle.table.specs.Sound.{soundOf, soundParts}
 use Rattle.table.specs.With.{withRound}
@@ -143,15 +143,15 @@ BetKeeps s = soundOf (s .table) ≡ true
 abbrev Keeps : TableStep → Type 0
 Keeps s = soundOf (s .table) ≡ true
 
-settled-sound : (t : GameState) (forced : Bool) (v : BetSize) → soundOf t ≡ true → soundOf (settled t forced v .table) ≡ true
-unfolding settled
-settled-sound t forced (Refused r) p = p
-settled-sound t forced (Pays x) p = sound-of (tablePaid t x forced) (paid-sound t (sound t p) x forced)
+judged-sound : (t : GameState) (forced : Bool) (v : BetSize) → soundOf t ≡ true → soundOf (judged t forced v .table) ≡ true
+unfolding judged
+judged-sound t forced (Refused r) p = p
+judged-sound t forced (Pays x) p = sound-of (tablePaid t x forced) (paid-sound t (sound t p) x forced)
 
 module _ (t : GameState) (p : soundOf t ≡ true) where
   pub bet-sound : (a : Float) (forced : Bool) → soundOf (betOf t a forced .table) ≡ true
   unfolding betOf
-  bet-sound a forced = pick BetKeeps (soundOf t) _ _ (settled-sound t forced (verdictOf t a forced) p) p
+  bet-sound a forced = pick BetKeeps (soundOf t) _ _ (judged-sound t forced (verdictOf t a forced) p) p
 
   pub folded-sound : soundOf (foldOf t .table) ≡ true
   unfolding foldOf

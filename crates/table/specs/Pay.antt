@@ -81,12 +81,13 @@ verdictOf t a forced =
     let d = t .«round_data» in
     roomFor (d .«total_bet_count») (d .«total_raise_count») (d .«forced_bet_count») forced (d .bet) (putIn d) (sizeOf t a forced)
 
-unfoldable pub settled : GameState → Bool → BetSize → BetStep
-settled t forced (Refused r) = notPaid r t
-settled t forced (Pays x) = paidStep t x forced
+-- the step that a verdict comes to
+unfoldable pub judged : GameState → Bool → BetSize → BetStep
+judged t forced (Refused r) = notPaid r t
+judged t forced (Pays x) = paidStep t x forced
 
 unfoldable pub betOf : GameState → Float → Bool → BetStep
-betOf t a forced = cond (soundOf t) (settled t forced (verdictOf t a forced)) (notPaid (Added BadRecord) t)
+betOf t a forced = cond (soundOf t) (judged t forced (verdictOf t a forced)) (notPaid (Added BadRecord) t)
 
 -- "The seat leaves both sets, then the walk."
 abbrev pub foldedStep : GameState → TableStep
