@@ -2,7 +2,7 @@
 
 use std::time::Instant;
 
-/// Does its work, a script apart of a millisecond at most, and gives how many steps that was.
+/// Does its work, of a millisecond at most (a script takes longer), and gives how many steps that was.
 pub type Measure = fn() -> u64;
 
 /// Nanoseconds for a step.
