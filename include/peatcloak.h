@@ -1,8 +1,9 @@
-/* The betting core of a card table, proved: the boundary of the static library libhost.a.
+/* The betting core of a card table, proved: the boundary of the static library libpeatcloak.a.
  *
  * Every function takes any input. A list crosses as its first place, which is never NULL, and its length; the memory
  * must be there, and what a call writes must overlap nothing else that it is given. A table is two lists of the
- * caller's: floats (at least PEATCLOAK_FLOATS places) and numbers (at least PEATCLOAK_NUMBERS).
+ * caller's: floats (at least PEATCLOAK_FLOATS places) and numbers (at least PEATCLOAK_NUMBERS). Later versions may ask
+ * for more places: a host asks peatcloak_version when it starts.
  *
  * A table function answers 0, or document 01's refusal number; then nothing at all is written. 19 is also given where a
  * list is too short or a word is out of the range of what it stands for. */
@@ -16,7 +17,20 @@
 extern "C" {
 #endif
 
-enum { PEATCLOAK_FLOATS = 88, PEATCLOAK_NUMBERS = 24, PEATCLOAK_SEATS = 16 };
+/* The most seats that there are; each list of seats has so many places. */
+#define PEATCLOAK_SEATS 16
+
+/* ---- Written by .ci/layout from crates/layout/src/places.rt */
+
+/* The library's version: 20000 is 2.0.0. The layout's goes up when a place moves or is added. */
+#define PEATCLOAK_VERSION 20000
+#define PEATCLOAK_LAYOUT 1
+
+/* How many places each list has. */
+#define PEATCLOAK_NUMBERS 24
+#define PEATCLOAK_FLOATS 88
+#define PEATCLOAK_GIVEN 16
+#define PEATCLOAK_AMOUNTS 3
 
 /* Places of the numbers. A set of seats is the number of its bits: seat 0 is 1, seat 1 is 2, seat 2 is 4. */
 enum peatcloak_number {
@@ -39,7 +53,9 @@ enum peatcloak_number {
     PEATCLOAK_CAP = 16,
     PEATCLOAK_BOARD_LENGTH = 17,
     PEATCLOAK_BOARD = 18, /* five places */
-    PEATCLOAK_PASSED = 23 /* answer: seats that the walk of the last accepted step passed to */
+    PEATCLOAK_PASSED = 23, /* answer: seats that the walk of the last accepted step passed to */
+    /* From here on stands what the Rust's record lacks: nothing yet. */
+    PEATCLOAK_ADDED = 24
 };
 
 /* Places of the floats. A list has 16 of them, one for each seat. */
@@ -57,6 +73,35 @@ enum peatcloak_float {
     PEATCLOAK_WINNINGS = 56,
     PEATCLOAK_ROUND_BETS = 72
 };
+
+/* Places of what a build is told: whether each is given, and its number. */
+enum peatcloak_given {
+    PEATCLOAK_GIVEN_STACKS = 0, /* 0 no, 1 yes, as wherever something is given */
+    PEATCLOAK_GIVEN_BIG_BLIND = 1,
+    PEATCLOAK_GIVEN_SMALL_BLIND = 2,
+    PEATCLOAK_GIVEN_ANTE = 3,
+    PEATCLOAK_GIVEN_DEALER = 4,
+    PEATCLOAK_GIVEN_DEALER_IS = 5,
+    PEATCLOAK_GIVEN_CAP = 6,
+    PEATCLOAK_GIVEN_CAP_CAPS = 7, /* 0: the cap that is given is none */
+    PEATCLOAK_GIVEN_CAP_IS = 8, /* below 256 */
+    PEATCLOAK_GIVEN_ROUND = 9,
+    PEATCLOAK_GIVEN_ROUND_IS = 10, /* 0 to 11 */
+    PEATCLOAK_GIVEN_BOARD = 11,
+    PEATCLOAK_GIVEN_HANDS = 12,
+    PEATCLOAK_GIVEN_HANDS_ARE = 13,
+    PEATCLOAK_GIVEN_PLAYER_BET = 14,
+    PEATCLOAK_GIVEN_ROUND_DATA = 15 /* what stands at the round's places of floats and numbers before the call */
+};
+
+/* Places of its amounts. */
+enum peatcloak_amount {
+    PEATCLOAK_AMOUNT_BIG_BLIND = 0,
+    PEATCLOAK_AMOUNT_SMALL_BLIND = 1,
+    PEATCLOAK_AMOUNT_ANTE = 2
+};
+
+/* ---- So far written by .ci/layout from crates/layout/src/places.rt */
 
 /* Document 01's refusal numbers. */
 enum peatcloak_refusal {
@@ -85,6 +130,10 @@ enum peatcloak_refusal {
     PEATCLOAK_NOT_WHOLE_CHIPS = 23,
     PEATCLOAK_ALREADY_PAID = 24
 };
+
+/* out (4): PEATCLOAK_VERSION, PEATCLOAK_LAYOUT, PEATCLOAK_FLOATS and PEATCLOAK_NUMBERS of the library that is linked.
+ * Where they are not this header's, header and library do not go together. 0, or 19 where out is shorter. */
+uint32_t peatcloak_version(uint32_t *out, size_t out_len);
 
 /* The seat to act bets; is_forced: 0 no, other yes. */
 uint32_t peatcloak_do_bet(float *floats, size_t floats_len, uint32_t *numbers, size_t numbers_len, float amount,
@@ -116,19 +165,16 @@ uint32_t peatcloak_queries(const float *floats, size_t floats_len, const uint32_
                            uint32_t player_idx, float *amounts, size_t amounts_len, uint32_t *answers,
                            size_t answers_len);
 
-/* Makes a table. Lists are of any length, given with their true one.
- * amounts (3): big blind, small blind, ante
- * given (16): 0 stacks given (0 or 1), 1 big blind given, 2 small blind given, 3 ante given, 4 dealer given, 5 dealer,
- *   6 cap given, 7 capped (0: the cap given is none), 8 cap (below 256), 9 round given, 10 round (0 to 11),
- *   11 board given, 12 hands given, 13 count of hands, 14 player_bet given, 15 round data given
- * Round data, where given, is what stands at the round's places of floats and numbers before the call; every one of the
- * numbers must then be in its range. */
+/* Makes a table. Lists are of any length, given with their true one. amounts (PEATCLOAK_AMOUNTS) has its places under
+ * enum peatcloak_amount, given (PEATCLOAK_GIVEN) under enum peatcloak_given. Round data, where given, is what stands at
+ * the round's places of floats and numbers before the call; every one of the numbers must then be in its range. */
 uint32_t peatcloak_build(float *floats, size_t floats_len, uint32_t *numbers, size_t numbers_len, const float *stacks,
                          size_t stacks_len, const float *player_bet, size_t player_bet_len, const uint8_t *board,
                          size_t board_len, const float *amounts, size_t amounts_len, const uint32_t *given,
                          size_t given_len);
 
-/* Pays the pot out by 16 ranks, higher is better; 16 rewards are each seat's stack less its starting stack. */
+/* Pays the pot out by PEATCLOAK_SEATS ranks, higher is better; as many rewards are each seat's stack less its starting
+ * stack. */
 uint32_t peatcloak_settle(float *floats, size_t floats_len, uint32_t *numbers, size_t numbers_len,
                           const uint16_t *ranks, size_t ranks_len, int32_t *rewards, size_t rewards_len);
 
@@ -136,19 +182,7 @@ uint32_t peatcloak_settle(float *floats, size_t floats_len, uint32_t *numbers, s
  * answers the bytes written. */
 size_t peatcloak_play(const uint8_t *script, size_t script_len, uint8_t *out, size_t out_len);
 
-/* The amounts one after another as voluntary bets, by value inside; the place PASSED is how many were accepted, and on
- * a table that is not sound that is none. */
-uint32_t peatcloak_run_bets(float *floats, size_t floats_len, uint32_t *numbers, size_t numbers_len,
-                            const float *amounts, size_t amounts_len);
-
-/* Float helpers; the tests answer 0 or 1. */
-float peatcloak_max(float a, float b);
-float peatcloak_min(float a, float b);
-float peatcloak_tol(float x);
-float peatcloak_abs(float x);
-uint32_t peatcloak_is_sign_negative(float x);
-uint32_t peatcloak_is_nan(float x);
-uint32_t peatcloak_is_near_zero(float x);
+/* ---- Sets of seats and round data alone */
 
 /* Sets of seats. These four answer the set (get: 0 or 1) and 65536 times the refusal number. */
 uint32_t peatcloak_seats_new(uint32_t players);
@@ -157,18 +191,19 @@ uint32_t peatcloak_seats_disable(uint16_t set, uint32_t idx);
 uint32_t peatcloak_seats_get(uint16_t set, uint32_t idx);
 uint32_t peatcloak_seats_count(uint16_t set);
 uint32_t peatcloak_seats_empty(uint16_t set);
-/* The first seat at or above from, 16 where there is none. */
+/* The first seat at or above from, PEATCLOAK_SEATS where there is none. */
 uint32_t peatcloak_seats_next(uint16_t set, uint32_t from);
 uint16_t peatcloak_seats_or(uint16_t a, uint16_t b);
 uint16_t peatcloak_seats_and(uint16_t a, uint16_t b);
 
-/* Round data alone, at the round's places of floats and numbers; the others are not looked at. */
+/* Round data alone, at the round's places of floats and numbers; the others are not looked at. What makes round data
+ * does not look at the round's places either. */
 uint32_t peatcloak_round_new(float *floats, size_t floats_len, uint32_t *numbers, size_t numbers_len,
                              uint32_t num_players, float min_raise, uint16_t active, uint32_t to_act);
 uint32_t peatcloak_round_new_with_bets(float *floats, size_t floats_len, uint32_t *numbers, size_t numbers_len,
                                        float min_raise, uint16_t active, uint32_t to_act, const float *bets,
                                        size_t bets_len);
-/* The place PASSED tells the seats passed to. */
+/* The place PEATCLOAK_PASSED tells the seats passed to. */
 uint32_t peatcloak_round_advance_action(float *floats, size_t floats_len, uint32_t *numbers, size_t numbers_len);
 uint32_t peatcloak_round_do_bet(float *floats, size_t floats_len, uint32_t *numbers, size_t numbers_len, float extra,
                                 uint32_t is_forced);

@@ -1,5 +1,7 @@
-/* A hand between two seats: build, post the blinds, a bet refused, a raise, a fold, the pot paid out. */
+/* A hand between two seats: is it this library, build, post the blinds, a bet refused, a raise, a fold, the pot paid
+ * out. */
 #include <stdio.h>
+#include <string.h>
 
 #include "peatcloak.h"
 
@@ -15,16 +17,29 @@ static void show(const char *step, uint32_t refused) {
            floats[PEATCLOAK_ROUND_BET]);
 }
 
+/* Whether the library and the header go together. */
+static int is_ours(void) {
+    const uint32_t header[4] = {PEATCLOAK_VERSION, PEATCLOAK_LAYOUT, PEATCLOAK_FLOATS, PEATCLOAK_NUMBERS};
+    uint32_t library[4];
+    return peatcloak_version(library, 4) == 0 && memcmp(library, header, sizeof header) == 0;
+}
+
 int main(void) {
     const float stacks[] = {100, 100};
-    const float amounts[] = {10, 5, 0};
-    const uint32_t given[16] = {1, 1, 1}; /* stacks and both blinds */
+    const float amounts[PEATCLOAK_AMOUNTS] = {[PEATCLOAK_AMOUNT_BIG_BLIND] = 10, [PEATCLOAK_AMOUNT_SMALL_BLIND] = 5};
+    const uint32_t given[PEATCLOAK_GIVEN] = {
+        [PEATCLOAK_GIVEN_STACKS] = 1, [PEATCLOAK_GIVEN_BIG_BLIND] = 1, [PEATCLOAK_GIVEN_SMALL_BLIND] = 1};
     const uint8_t no_cards[1] = {0};
     const uint16_t ranks[PEATCLOAK_SEATS] = {7, 3};
     int32_t rewards[PEATCLOAK_SEATS];
     int round;
 
-    show("build", peatcloak_build(TABLE, stacks, 2, stacks, 0, no_cards, 0, amounts, 3, given, 16));
+    if (!is_ours()) {
+        fprintf(stderr, "hand: the library that is linked is not the one of peatcloak.h\n");
+        return 1;
+    }
+    show("build", peatcloak_build(TABLE, stacks, 2, stacks, 0, no_cards, 0, amounts, PEATCLOAK_AMOUNTS, given,
+                                  PEATCLOAK_GIVEN));
     for (round = 0; round < 3; round++) {
         show("advance", peatcloak_advance_round(TABLE));
     }

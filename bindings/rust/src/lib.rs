@@ -6,6 +6,10 @@
 
 pub mod arena;
 pub mod core;
+pub mod library;
+#[cfg(feature = "parts")]
+pub mod parts;
+pub mod places;
 pub mod script;
 pub mod sys;
 mod words;

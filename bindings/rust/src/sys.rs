@@ -1,8 +1,11 @@
-//! The boundary as it is: C functions of libhost.a. include/peatcloak.h says what each one does.
+//! The boundary as it is: C functions of libpeatcloak.a. include/peatcloak.h says what each one does.
 //!
 //! Each pointer is followed by its length. Memory must be there, and what is written must overlap nothing else.
+//! `library::check` tells whether the library that is linked is the one that `places` is of.
 
 unsafe extern "C" {
+    /// The version of the library and of its layout, and the sizes of floats and numbers, in 4 words.
+    pub fn peatcloak_version(out: *mut u32, out_len: usize) -> u32;
     /// The seat to act bets; `is_forced` is 0 for no.
     pub fn peatcloak_do_bet(
         floats: *mut f32,
@@ -64,7 +67,7 @@ unsafe extern "C" {
         answers: *mut u32,
         answers_len: usize,
     ) -> u32;
-    /// Makes a table of 3 amounts, the lists, and 16 words that say what is given.
+    /// Makes a table of the lists, the amounts, and the words that say what is given.
     pub fn peatcloak_build(
         floats: *mut f32,
         floats_len: usize,
@@ -81,7 +84,7 @@ unsafe extern "C" {
         given: *const u32,
         given_len: usize,
     ) -> u32;
-    /// Pays the pot out by 16 ranks; tells 16 rewards.
+    /// Pays the pot out by a rank for each of 16 seats; tells as many rewards.
     pub fn peatcloak_settle(
         floats: *mut f32,
         floats_len: usize,
@@ -99,30 +102,6 @@ unsafe extern "C" {
         out: *mut u8,
         out_len: usize,
     ) -> usize;
-    /// The amounts one after another as voluntary bets, by value inside.
-    pub fn peatcloak_run_bets(
-        floats: *mut f32,
-        floats_len: usize,
-        numbers: *mut u32,
-        numbers_len: usize,
-        amounts: *const f32,
-        amounts_len: usize,
-    ) -> u32;
-
-    /// The larger; the other where one is a NaN.
-    pub safe fn peatcloak_max(a: f32, b: f32) -> f32;
-    /// The smaller; the other where one is a NaN.
-    pub safe fn peatcloak_min(a: f32, b: f32) -> f32;
-    /// EPSILON times 1000 of it.
-    pub safe fn peatcloak_tol(x: f32) -> f32;
-    /// Without its sign.
-    pub safe fn peatcloak_abs(x: f32) -> f32;
-    /// 1 where its sign bit is set and it is no NaN.
-    pub safe fn peatcloak_is_sign_negative(x: f32) -> u32;
-    /// 1 where it is a NaN.
-    pub safe fn peatcloak_is_nan(x: f32) -> u32;
-    /// 1 where it is at most EPSILON away from 0.
-    pub safe fn peatcloak_is_near_zero(x: f32) -> u32;
 
     /// The first seats, and 65536 times the refusal number.
     pub safe fn peatcloak_seats_new(players: u32) -> u32;

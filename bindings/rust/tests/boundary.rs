@@ -1,9 +1,16 @@
-//! What the boundary refuses before document 01's own tests: lists that are too short, words out of range.
+//! 19 at the boundary: lists that are too short and words out of range, which come before document 01's own tests, and
+//! tables that are not sound.
 
 #[path = "common/words.rs"]
 mod words;
 
 use peatcloak::arena::GameStateBuilder;
+use peatcloak::places::number::{
+    BB_POSTED, BOARD, BOARD_LENGTH, CAP, DEALER_IDX, FORCED_BET_COUNT, HAS_CAP, NEEDS_ACTION,
+    NUM_PLAYERS, PLAYER_ACTIVE, PLAYER_ALL_IN, ROUND, ROUND_BEFORE, ROUND_LENGTH, SB_POSTED,
+    STARTING_PLAYER_ACTIVE, TO_ACT_IDX, TOTAL_BET_COUNT, TOTAL_RAISE_COUNT,
+};
+use peatcloak::places::{FLOATS, NUMBERS};
 use peatcloak::sys;
 use words::Words;
 
@@ -12,9 +19,12 @@ fn table() -> Words {
     Words::of(&builder.build().expect("a table"))
 }
 
-/// Every call that takes a table.
-fn all_refuse(words: &Words) -> bool {
-    let changed = [
+/// A run of bets is a step too, where it is there.
+const STEPS: usize = if cfg!(feature = "parts") { 9 } else { 8 };
+
+/// What each step answers. `Words` sees that a refused one has written nothing.
+fn steps(words: &Words) -> [u32; STEPS] {
+    [
         words.clone().do_bet(10.0, false),
         words.clone().do_bet(10.0, true),
         words.clone().fold(),
@@ -22,48 +32,93 @@ fn all_refuse(words: &Words) -> bool {
         words.clone().complete(),
         words.clone().award(0, 1.0),
         words.clone().settle(),
-        words.clone().run_bets(),
-    ];
-    changed.iter().all(|&refused| refused == 19)
-        && words.player_reward(0).0 == 19
-        && words.queries(0).0 == 19
+        words.player_reward(0).0,
+        #[cfg(feature = "parts")]
+        words.clone().run_bets(&[10.0]),
+    ]
+}
+
+fn with(changes: &[(usize, u32)]) -> Words {
+    let mut words = table();
+    changes.iter().for_each(|&(place, value)| words.numbers[place] = value);
+    words
 }
 
 #[test]
 fn a_word_out_of_range_is_19() {
-    let most: [(usize, u32); 21] = [
-        (2, 11),
-        (3, 11),
-        (4, 65_535),
-        (5, 65_535),
-        (6, 65_535),
-        (7, 65_535),
-        (10, 255),
-        (11, 255),
-        (12, 255),
-        (13, 1),
-        (14, 1),
-        (15, 1),
-        (16, 255),
-        (18, 255),
-        (19, 255),
-        (20, 255),
-        (21, 255),
-        (22, 255),
-        (0, 16),
-        (1, 15),
-        (8, 15),
-    ];
+    let sets = [PLAYER_ACTIVE, PLAYER_ALL_IN, STARTING_PLAYER_ACTIVE, NEEDS_ACTION];
+    let counters = [TOTAL_BET_COUNT, TOTAL_RAISE_COUNT, FORCED_BET_COUNT, CAP];
+    let cards = [BOARD, BOARD + 1, BOARD + 2, BOARD + 3, BOARD + 4];
+    let most = [ROUND, ROUND_BEFORE].map(|place| (place, 11)).into_iter();
+    let most = most.chain(sets.map(|place| (place, 65_535)));
+    let most = most.chain([BB_POSTED, SB_POSTED, HAS_CAP].map(|place| (place, 1)));
+    let most = most.chain(counters.map(|place| (place, 255)));
+    let most = most.chain(cards.map(|place| (place, 255)));
     for (place, most) in most {
         for value in [most + 1, u32::MAX] {
-            let mut words = table();
-            words.numbers[place] = value;
-            let is_sound_asked = [0, 1, 8].contains(&place);
-            // These three are numbers of any size, so only the record is unsound, and a query answers.
-            assert!(
-                is_sound_asked && words.queries(0).0 == 0 || all_refuse(&words),
-                "{place}: {value}"
-            );
+            let words = with(&[(place, value)]);
+            assert_eq!(steps(&words), [19; STEPS], "{place}: {value}");
+            assert_eq!(words.queries(0).0, 19, "{place}: {value}");
+        }
+    }
+}
+
+/// Changes after which the table is not sound, by its number of seats, its round's list, a seat, its board or a set.
+/// Each word is in range: seats, lengths and the number of seats are numbers of any size.
+const UNSOUND: [&[(usize, u32)]; 28] = [
+    &[(NUM_PLAYERS, 0)],
+    &[(NUM_PLAYERS, 1)],
+    &[(NUM_PLAYERS, 3)],
+    &[(NUM_PLAYERS, 17)],
+    &[(NUM_PLAYERS, u32::MAX)],
+    &[
+        (NUM_PLAYERS, 0),
+        (ROUND_LENGTH, 0),
+        (PLAYER_ACTIVE, 0),
+        (STARTING_PLAYER_ACTIVE, 0),
+        (NEEDS_ACTION, 0),
+    ],
+    &[
+        (NUM_PLAYERS, 1),
+        (ROUND_LENGTH, 1),
+        (PLAYER_ACTIVE, 1),
+        (STARTING_PLAYER_ACTIVE, 1),
+        (NEEDS_ACTION, 1),
+    ],
+    &[(NUM_PLAYERS, 17), (ROUND_LENGTH, 17)],
+    &[(ROUND_LENGTH, 0)],
+    &[(ROUND_LENGTH, 1)],
+    &[(ROUND_LENGTH, 3)],
+    &[(ROUND_LENGTH, u32::MAX)],
+    &[(DEALER_IDX, 2)],
+    &[(DEALER_IDX, u32::MAX)],
+    &[(TO_ACT_IDX, 2)],
+    &[(TO_ACT_IDX, u32::MAX)],
+    &[(BOARD_LENGTH, 6)],
+    &[(BOARD_LENGTH, u32::MAX)],
+    &[(BOARD_LENGTH, 1), (BOARD, 52)],
+    &[(BOARD_LENGTH, 5), (BOARD + 4, 255)],
+    &[(PLAYER_ACTIVE, 0b111)],
+    &[(PLAYER_ALL_IN, 0b100)],
+    &[(STARTING_PLAYER_ACTIVE, 0b111)],
+    &[(NEEDS_ACTION, 0b111)],
+    &[(PLAYER_ACTIVE, 0x8003)],
+    &[(PLAYER_ALL_IN, 0x8000)],
+    &[(STARTING_PLAYER_ACTIVE, 0x8003)],
+    &[(NEEDS_ACTION, 0x8003)],
+];
+
+#[test]
+fn a_step_on_a_table_that_is_not_sound_is_19() {
+    assert_eq!(steps(&table()), [0; STEPS]);
+    for changes in UNSOUND {
+        // At Complete too, where advancing and completing would do nothing.
+        for round in [0, 11] {
+            let mut words = with(changes);
+            words.numbers[ROUND] = round;
+            let (refused, _, [.., is_sound]) = words.queries(0);
+            assert_eq!((refused, is_sound), (0, 0), "{changes:?}: in range, not sound");
+            assert_eq!(steps(&words), [19; STEPS], "{changes:?}, round {round}");
         }
     }
 }
@@ -71,7 +126,8 @@ fn a_word_out_of_range_is_19() {
 #[test]
 fn a_list_that_is_too_short_is_19() {
     let Words { mut floats, mut numbers } = table();
-    for (floats_len, numbers_len) in [(87, 24), (88, 23), (0, 0), (0, 24), (88, 0)] {
+    let short = [(FLOATS - 1, NUMBERS), (FLOATS, NUMBERS - 1), (0, 0), (0, NUMBERS), (FLOATS, 0)];
+    for (floats_len, numbers_len) in short {
         let (f, n) = (floats.as_mut_ptr(), numbers.as_mut_ptr());
         // SAFETY: the arrays are longer than that.
         unsafe {
@@ -80,15 +136,31 @@ fn a_list_that_is_too_short_is_19() {
             assert_eq!(sys::peatcloak_advance_round(f, floats_len, n, numbers_len), 19);
             assert_eq!(sys::peatcloak_complete(f, floats_len, n, numbers_len), 19);
             assert_eq!(sys::peatcloak_award(f, floats_len, n, numbers_len, 0, 1.0), 19);
-            assert_eq!(
-                sys::peatcloak_run_bets(f, floats_len, n, numbers_len, [1.0].as_ptr(), 1),
-                19
-            );
             assert_eq!(sys::peatcloak_round_new(f, floats_len, n, numbers_len, 2, 1.0, 3, 0), 19);
             assert_eq!(sys::peatcloak_round_advance_action(f, floats_len, n, numbers_len), 19);
             assert_eq!(sys::peatcloak_round_do_bet(f, floats_len, n, numbers_len, 1.0, 0), 19);
+            #[cfg(feature = "parts")]
+            assert_eq!(
+                peatcloak::parts::peatcloak_run_bets(
+                    f,
+                    floats_len,
+                    n,
+                    numbers_len,
+                    [1.0].as_ptr(),
+                    1
+                ),
+                19
+            );
         }
     }
     let before = table().bits();
     assert_eq!(Words { floats, numbers }.bits(), before);
+}
+
+#[test]
+fn round_data_is_made_over_any_words() {
+    let any = Words { floats: [f32::NAN; FLOATS], numbers: [u32::MAX; NUMBERS] };
+    assert_eq!(any.clone().round_new(2, 1.0, 0b11, 0), 0);
+    assert_eq!(any.clone().round_new_with_bets(1.0, 0b11, 0, &[5.0, 10.0]), 0);
+    assert_eq!(any.refused_round()[..2], [19, 19]);
 }

@@ -41,11 +41,13 @@ fn sets_are_joined_and_met_as_there() {
 
 #[test]
 fn where_the_rust_panics_a_number_is_given() {
-    assert_eq!(PlayerBitSet::new(17).unwrap_err().number(), 3);
-    assert_eq!(PlayerBitSet::new(usize::MAX).unwrap_err().number(), 3);
+    assert_eq!(PlayerBitSet::new(16).map(PlayerBitSet::bits), Ok(u16::MAX));
     let mut set = PlayerBitSet::new(3).expect("three seats");
-    assert_eq!(set.enable(16).unwrap_err().number(), 20);
-    assert_eq!(set.disable(usize::MAX).unwrap_err().number(), 20);
-    assert_eq!(set.get(16).unwrap_err().number(), 20);
+    for outside in [16, 17, 65_536, 1 << 32, usize::MAX] {
+        assert_eq!(PlayerBitSet::new(outside.max(17)).unwrap_err().number(), 3);
+        assert_eq!(set.enable(outside).unwrap_err().number(), 20);
+        assert_eq!(set.disable(outside).unwrap_err().number(), 20);
+        assert_eq!(set.get(outside).unwrap_err().number(), 20);
+    }
     assert_eq!(set.bits(), 0b111);
 }

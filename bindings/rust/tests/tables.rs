@@ -13,6 +13,7 @@ use lists::{builders, play, settlement, settlements, tables};
 use peatcloak::arena::errors::{GameStateBuilderError, GameStateError};
 use peatcloak::arena::{GameState, GameStateBuilder, RoundData};
 use peatcloak::core::PlayerBitSet;
+use peatcloak::places::number;
 
 /// The same fields given to our builder; round data only as `new_with_bets` makes it.
 fn build(builder: &Builder) -> Result<GameState, GameStateBuilderError> {
@@ -133,7 +134,7 @@ fn one_zero(answer: &str) -> String {
 }
 
 fn float(x: f32) -> String {
-    one_zero(&format!("{:08x}", lists::amounts::bits(x)))
+    one_zero(&format!("{:08x}", lists::bits::of(x)))
 }
 
 /// In the order of the list `steps`.
@@ -189,7 +190,7 @@ fn where_the_rust_panics_a_number_is_given() {
     assert_eq!(table.do_bet(0.0, true), Err(GameStateError::CounterFull));
     let (&floats, &numbers) = table.words();
     let mut moved = numbers;
-    moved[8] = 2;
+    moved[number::TO_ACT_IDX] = 2;
     assert_eq!(GameState::from_words(floats, moved), None);
     assert_eq!(GameState::from_words(floats, numbers), Some(table));
 }

@@ -1,10 +1,7 @@
 -- Any pair of results that the `ensures` of a public function allows is equal, each by the one law `same`. The checker writes `ended`, the function's
 -- signature, and `Learnt`, what a caller learns from its `ensures`. `.ci/functions --check` asks a line for each public function. Assumes nothing.
-use Rattle.refusals.proofs.OneResult.{OneResult, same, only}
+use Rattle.commons.proofs.OneResult.{OneResult, same, only}
 use Rattle.amounts.proofs as crate
-
-pub smaller : OneResult crate.smaller.ended crate.smaller.Reads.Learnt
-smaller κs a x y = only same
 
 pub of-slice : OneResult crate.of_slice.ended crate.of_slice.Reads.Learnt
 of-slice κs a x y = only same

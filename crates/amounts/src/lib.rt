@@ -1,24 +1,15 @@
-// "Arrays of 16 amounts with a length": how they are filled, cleared and taken together. A length above 16 counts as 16.
+// Lists of amounts, 16 places each: how they are filled, cleared and taken together. A length above 16 counts as 16.
 ghost use mathlib.Core.Path.{_≡_};
 ghost use mathlib.Core.Bool.{cond};
 ghost use Prim.Native.Nat.{min};
 ghost use Rattle.amounts.specs.Amounts.{ofSlice, keptTo, clearedTo, sumOf, largestOf, aboveOf, invalid, anyInvalid};
 
-pub fn smaller(a: usize, b: usize) -> usize
-    ensures { λ r. ⌜ r ≡ min a b ⌝ }
-{
-    if a < b { a } else { b }
-}
-
 // The amounts of a slice from place 0 on, zeros after them.
 pub fn of_slice(s: &[f32]) -> [f32; 16]
     ensures { λ r. ⌜ r ≡ ofSlice (now (s .entry)) ⌝ }
 {
-    let n = smaller(s.len(), 16);
     let mut out: [f32; 16] = [0.0; 16];
-    for i in 0..n {
-        out[i] = s[i];
-    }
+    commons::copying::copy_f32(&mut out, 0, s, 0, 16);
     out
 }
 
@@ -26,11 +17,8 @@ pub fn of_slice(s: &[f32]) -> [f32; 16]
 pub fn kept(list: [f32; 16], len: usize) -> [f32; 16]
     ensures { λ r. ⌜ r ≡ keptTo len list ⌝ }
 {
-    let n = smaller(len, 16);
     let mut out: [f32; 16] = [0.0; 16];
-    for i in 0..n {
-        out[i] = list[i];
-    }
+    commons::copying::copy_f32(&mut out, 0, &list, 0, len);
     out
 }
 
@@ -38,7 +26,7 @@ pub fn kept(list: [f32; 16], len: usize) -> [f32; 16]
 pub fn cleared(list: [f32; 16], len: usize) -> [f32; 16]
     ensures { λ r. ⌜ r ≡ clearedTo len list ⌝ }
 {
-    let n = smaller(len, 16);
+    let n = commons::smaller(len, 16);
     let mut out = list;
     for i in 0..n {
         out[i] = 0.0;
@@ -50,7 +38,7 @@ pub fn cleared(list: [f32; 16], len: usize) -> [f32; 16]
 pub fn sum(list: [f32; 16], len: usize) -> f32
     ensures { λ r. ⌜ r ≡ sumOf (min len 16) list ⌝ }
 {
-    let n = smaller(len, 16);
+    let n = commons::smaller(len, 16);
     let mut total: f32 = 0.0;
     for i in 0..n {
         total = total + list[i];
@@ -58,11 +46,11 @@ pub fn sum(list: [f32; 16], len: usize) -> f32
     total
 }
 
-// The largest of 0 and the amounts, a NaN passed over.
+// The largest of the amounts, 0 at least; a NaN does not count.
 pub fn largest(list: [f32; 16], len: usize) -> f32
     ensures { λ r. ⌜ r ≡ largestOf (min len 16) list ⌝ }
 {
-    let n = smaller(len, 16);
+    let n = commons::smaller(len, 16);
     let mut top: f32 = 0.0;
     for i in 0..n {
         top = floats::max(top, list[i]);
@@ -80,7 +68,7 @@ fn one_if(b: bool) -> u8
 pub fn count_above_zero(list: [f32; 16], len: usize) -> u8
     ensures { λ r. ⌜ r ≡ aboveOf (min len 16) list ⌝ }
 {
-    let n = smaller(len, 16);
+    let n = commons::smaller(len, 16);
     let mut count = 0u8;
     for i in 0..n {
         count = count + one_if(list[i] > 0.0);
@@ -99,7 +87,7 @@ pub fn is_invalid(x: f32) -> bool
 pub fn any_invalid(list: [f32; 16], len: usize) -> bool
     ensures { λ r. ⌜ r ≡ anyInvalid (min len 16) list ⌝ }
 {
-    let n = smaller(len, 16);
+    let n = commons::smaller(len, 16);
     let mut any = false;
     for i in 0..n {
         any = any | is_invalid(list[i]);

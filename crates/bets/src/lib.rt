@@ -1,8 +1,18 @@
-// The arithmetic of one bet, on plain amounts: a the amount, p the seat's round bet, k its stack, b the bet, m the smallest raise.
+// The arithmetic of one bet, on plain amounts: a the amount, p the seat's round bet, k its stack, b the bet, m the smallest raise. What the seat faces
+// stands in one struct, so that a rule that looks at more adds a field there.
 ghost use mathlib.Core.Path.{_≡_};
-ghost use Rattle.bets.specs.Bet.{invalidSize, slackOf, doesntCallSelf, paymentOf, isAllIn, raiseBy, doesntCall, tooSmall, sized, betSize, forcedSize, sizeFor};
+ghost use Rattle.bets.specs.Bet.{invalidSize, slackOf, doesntCallSelf, paymentOf, isAllIn, raiseBy, doesntCall, tooSmall, sized, betSize, sizeFor};
+ghost use mathlib.Core.Bool.{true};
 use refusals::GameStateError;
 use refusals::Refusal;
+
+// What the seat to act faces.
+pub struct Facing {
+    pub round_bet: f32,
+    pub stack: f32,
+    pub bet: f32,
+    pub min_raise: f32,
+}
 
 // What a bet comes to: the payment, or why it is refused.
 pub enum BetSize {
@@ -35,7 +45,7 @@ fn payment(a: f32, p: f32, k: f32) -> f32
     floats::min(k, a - p)
 }
 
-// All in by the bet's own test, which is not the test of an empty stack.
+// Whether the bet is all in: its own test, which is not that of an empty stack.
 fn is_all_in(x: f32, k: f32) -> bool
     ensures { λ r. ⌜ r ≡ isAllIn x k ⌝ }
 {
@@ -61,46 +71,46 @@ fn too_small(r: f32, e: f32, m: f32, all_in: bool) -> bool
 }
 
 // The payment x against the bet and the smallest raise.
-fn size_of(x: f32, e: f32, p: f32, k: f32, b: f32, m: f32) -> BetSize
-    ensures { λ r. ⌜ r ≡ sized x e p k b m ⌝ }
+fn size_of(x: f32, e: f32, f: Facing) -> BetSize
+    ensures { λ r. ⌜ r ≡ sized x e f ⌝ }
 {
-    let y = p + x;
-    let all_in = is_all_in(x, k);
-    if doesnt_call(y, e, b, all_in) {
+    let y = f.round_bet + x;
+    let all_in = is_all_in(x, f.stack);
+    if doesnt_call(y, e, f.bet, all_in) {
         return BetSize::Refused(Refusal::Bet(GameStateError::BetSizeDoesntCall));
     }
-    if too_small(raise_by(y, b), e, m, all_in) {
+    if too_small(raise_by(y, f.bet), e, f.min_raise, all_in) {
         return BetSize::Refused(Refusal::Bet(GameStateError::RaiseSizeTooSmall));
     }
     BetSize::Pays(x)
 }
 
-pub fn validate_bet_amount(a: f32, p: f32, k: f32, b: f32, m: f32) -> BetSize
-    ensures { λ r. ⌜ r ≡ betSize a p k b m ⌝ }
+pub fn validate_bet_amount(a: f32, f: Facing) -> BetSize
+    ensures { λ r. ⌜ r ≡ betSize a f ⌝ }
 {
     if invalid_size(a) {
         return BetSize::Refused(Refusal::Bet(GameStateError::BetInvalidSize));
     }
-    let e = slack(a, b);
-    if doesnt_call_self(a, e, p) {
+    let e = slack(a, f.bet);
+    if doesnt_call_self(a, e, f.round_bet) {
         return BetSize::Refused(Refusal::Bet(GameStateError::BetSizeDoesntCallSelf));
     }
-    size_of(payment(a, p, k), e, p, k, b, m)
+    size_of(payment(a, f.round_bet, f.stack), e, f)
 }
 
 // Never refused for its size.
-pub fn validate_forced_bet_amount(a: f32, k: f32) -> BetSize
-    ensures { λ r. ⌜ r ≡ forcedSize a k ⌝ }
+pub fn validate_forced_bet_amount(a: f32, f: Facing) -> BetSize
+    ensures { λ r. ⌜ r ≡ sizeFor true a f ⌝ }
 {
-    BetSize::Pays(floats::min(k, a))
+    BetSize::Pays(floats::min(f.stack, a))
 }
 
-pub fn validate(is_forced: bool, a: f32, p: f32, k: f32, b: f32, m: f32) -> BetSize
-    ensures { λ r. ⌜ r ≡ sizeFor «is_forced» a p k b m ⌝ }
+pub fn validate(is_forced: bool, a: f32, f: Facing) -> BetSize
+    ensures { λ r. ⌜ r ≡ sizeFor «is_forced» a f ⌝ }
 {
     if is_forced {
-        validate_forced_bet_amount(a, k)
+        validate_forced_bet_amount(a, f)
     } else {
-        validate_bet_amount(a, p, k, b, m)
+        validate_bet_amount(a, f)
     }
 }

@@ -1,3 +1,5 @@
 pub mod Building
-pub mod LawsSound
+pub mod LawsPlaces
+pub mod LawsRows
 pub mod Promises
+pub mod Worked

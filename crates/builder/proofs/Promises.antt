@@ -1,6 +1,6 @@
 -- Any pair of results that the `ensures` of a public function allows is equal, each by the one law `same`. The checker writes `ended`, the function's
 -- signature, and `Learnt`, what a caller learns from its `ensures`. `.ci/functions --check` asks a line for each public function. Assumes nothing.
-use Rattle.refusals.proofs.OneResult.{OneResult, same, only}
+use Rattle.commons.proofs.OneResult.{OneResult, same, only}
 use Rattle.builder.proofs as crate
 
 pub new : OneResult crate.GameStateBuilder.new.ended crate.GameStateBuilder.new.Reads.Learnt
@@ -47,3 +47,18 @@ round-data κs a x y = only same
 
 pub build : OneResult crate.GameStateBuilder.build.ended crate.GameStateBuilder.build.Reads.Learnt
 build κs a x y = only same
+
+pub added : OneResult crate.GameStateBuilder.added.ended crate.GameStateBuilder.added.Reads.Learnt
+added κs a x y = only same
+
+pub verdict : OneResult crate.GameStateBuilder.verdict.ended crate.GameStateBuilder.verdict.Reads.Learnt
+verdict κs a x y = only same
+
+pub round-or-starting : OneResult crate.GameStateBuilder.round_or_starting.ended crate.GameStateBuilder.round_or_starting.Reads.Learnt
+round-or-starting κs a x y = only same
+
+pub small-blind-or-half : OneResult crate.GameStateBuilder.small_blind_or_half.ended crate.GameStateBuilder.small_blind_or_half.Reads.Learnt
+small-blind-or-half κs a x y = only same
+
+pub built : OneResult crate.GameStateBuilder.built.ended crate.GameStateBuilder.built.Reads.Learnt
+built κs a x y = only same

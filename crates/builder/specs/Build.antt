@@ -1,7 +1,7 @@
--- Document 01, "Builder": the refusals in their order, and the record that is built. Definitions only.
+-- Section 5, the builder: the refusals in their order, and the record that is built. Definitions only.
 use Prim.Native.Nat.{ℕ, min}
 use mathlib.Core.Bool.{Bool, true, false, cond, not, _&&_, _||_}
-use mathlib.Core.List.{List}
+use mathlib.Core.List.{List, [], _∷_, _++_}
 use lib.Dec.{eqb, leb, ltb}
 use lib.IntN.{pos}
 use lib.ListN.{getD}
@@ -11,7 +11,9 @@ use Rattle.amounts.specs.Amounts.{zeros, keptTo, sumOf, aboveOf, invalid, anyIn
 use Rattle.refusals.specs.declared.Refusal.the-variants.{Build, Added}
 use Rattle.refusals.specs.declared.GameStateBuilderError.the-variants.{MissingStacks, MissingBigBlind, InvalidPlayerCount, InvalidDealerIndex, InvalidBigBlind, InvalidSmallBlind, InvalidAnte, InvalidStack, InsufficientActivePlayers, HandsLengthMismatch, PlayerBetLengthMismatch, InvalidBoardSize}
 use Rattle.refusals.specs.declared.AddedError.the-variants.{BadRecord}
-use Rattle.refusals.specs.Number as Number
+use Rattle.refusals.specs.declared.Refusal.{Refusal}
+use Rattle.refusals.specs.declared.Verdict.the-variants.{Stands, Refused}
+use Rattle.refusals.specs.Rows.{Row, row, judge, answer}
 use Rattle.seats.specs.Bits.{upTo, seatsWhere}
 use Rattle.seats.specs.Set.{ofBits}
 use Rattle.rounds.specs.declared.Round.{Round}
@@ -24,11 +26,8 @@ use Rattle.table.specs.Rounds.{isRound}
 use Rattle.table.specs.Sound.{soundOf}
 use Rattle.table.specs.With.{tableOf, noTable}
 use Rattle.builder.specs.declared.GameStateBuilder.{GameStateBuilder}
-use Rattle.builder.specs.declared.BuildAnswer.{BuildAnswer}
-use Rattle.builder.specs.declared.BuildAnswer.the-variants.{Built, NotBuilt}
 use Rattle.builder.specs.declared.BuildStep.{BuildStep}
-use Rattle.builder.specs.Cards.{cardsTo, cardsFrom, boardSize}
-use Rattle.builder.specs.Given.{giveIf, refuseIf}
+use Rattle.builder.specs.Cards.{cardsTo, cardRows, boardSize}
 
 -- ---- what is given, or else the default
 abbrev pub seatsOf : GameStateBuilder → ℕ
@@ -37,7 +36,7 @@ seatsOf b = b .stacks .len
 abbrev pub stacksOf : GameStateBuilder → List Float
 stacksOf b = keptTo (seatsOf b) (b .stacks .list)
 
--- "Small blind defaults to big blind / 2, ante 0, dealer 0, raise cap 3, round Starting"
+-- R5.4: the defaults; the small blind is half the big one
 unfoldable pub smallBlindOf : GameStateBuilder → Float
 smallBlindOf b = cond (b .«small_blind» .given) (b .«small_blind» .value) (div binary32 (b .«big_blind» .value) (fin false 1 (pos 1)))
 
@@ -62,7 +61,7 @@ betsOf b = cond (b .«player_bet» .given) (keptTo (seatsOf b) (b .«player_bet�
 abbrev pub boardLenOf : GameStateBuilder → ℕ
 boardLenOf b = cond (b .board .given) (b .board .len) 0
 
--- "Default round data owes an action from all n seats, inactive ones included."
+-- R5.8: round data that is given, its tail cleared; by default all n seats owe, active or not, and the turn is the dealer's
 unfoldable pub dataFor : GameStateBuilder → ℕ → RoundData
 dataFor b dealer =
     let d = b .«round_data» .value in
@@ -70,7 +69,7 @@ dataFor b dealer =
     (withPaid d (d .«min_raise») (d .bet) (keptTo (seatsOf b) (d .«player_bet»)) (d .«total_bet_count») (d .«total_raise_count») (d .«forced_bet_count»))
     (newData (seatsOf b) (b .«big_blind» .value) (ofBits (upTo (seatsOf b))) dealer)
 
--- ---- the seats: "A stack of 0 with a bet above 0 outside Starting is marked all in and stays active too; any other stack of 0 is inactive."
+-- ---- R5.5: the seats: without chips one is active only by a bet that stands, and all in too; no bet stands in Starting
 abbrev pub betStands : Bool → Float → Bool
 betStands starting bet = lt zerof bet && not starting
 
@@ -86,7 +85,7 @@ activeSeats starting n stacks bets = seatsWhere (min n 16) (λ i. activeAt start
 abbrev pub allInSeats : Bool → ℕ → List Float → List Float → ℕ
 allInSeats starting n stacks bets = seatsWhere (min n 16) (λ i. allInAt starting (getD stacks i nan) (getD bets i nan))
 
--- ---- the record
+-- ---- R5.6, R5.7, R5.9: the record
 unfoldable pub builtOf : GameStateBuilder → GameState
 builtOf b =
     let n = seatsOf b in
@@ -100,46 +99,50 @@ builtOf b =
     (dealerOf b) (roundOf b) (roundOf b) (dataFor b (dealerOf b))
     (cardsTo (boardLenOf b) (b .board .list)) (boardLenOf b)
     posted posted
-    (not (b .«max_raises_per_round» .given) || b .«max_raises_per_round» .capped) (capOf b)
+    (not (b .«max_raises_per_round» .given) || b .«max_raises_per_round» .capped) (capOf b) (b .added)
 
--- ---- the refusals
--- first 1, 2, 3, 5, 6, 7, 8, 9
-unfoldable pub amountsFault : GameStateBuilder → BuildAnswer → BuildAnswer
-amountsFault b rest =
-    let n = seatsOf b in
-    refuseIf (not (b .stacks .given)) MissingStacks
-    (refuseIf (not (b .«big_blind» .given)) MissingBigBlind
-    (refuseIf (not (leb 2 n && leb n 16)) InvalidPlayerCount
-    (refuseIf (le (b .«big_blind» .value) zerof || isNan (b .«big_blind» .value)) InvalidBigBlind
-    (refuseIf (invalid (smallBlindOf b)) InvalidSmallBlind
-    (refuseIf (invalid (anteOf b)) InvalidAnte
-    (refuseIf (anyInvalid (min n 16) (b .stacks .list)) InvalidStack
-    (refuseIf (isStarting b && ltb (aboveOf (min n 16) (b .stacks .list)) 2) InsufficientActivePlayers
-    rest)))))))
+-- ---- R5.3: the order of the refusals
+-- 1, 2, 3
+abbrev pub toldRows : GameStateBuilder → List Row
+toldRows b =
+    row (not (b .stacks .given)) (Build MissingStacks)
+    ∷ row (not (b .«big_blind» .given)) (Build MissingBigBlind)
+    ∷ row (not (leb 2 (seatsOf b) && leb (seatsOf b) 16)) (Build InvalidPlayerCount)
+    ∷ []
 
--- then 4, 10, 11, 12, the cards, and 19 unless the record that would be built is sound
-unfoldable pub listsFault : GameStateBuilder → Bool → BuildAnswer
-listsFault b sound =
-    let n = seatsOf b in
-    refuseIf (leb n (dealerOf b)) InvalidDealerIndex
-    (refuseIf (b .hands .given && not (eqb (b .hands .value) n)) HandsLengthMismatch
-    (refuseIf (b .«player_bet» .given && not (eqb (b .«player_bet» .len) n)) PlayerBetLengthMismatch
-    (refuseIf (not (boardSize (boardLenOf b))) InvalidBoardSize
-    (cardsFrom (min (boardLenOf b) 5) 0 (b .board .list)
-    (giveIf (not sound) (Added BadRecord)
-    Built)))))
+-- 5, 6, 7, 8, 9
+abbrev pub amountRows : GameStateBuilder → List Row
+amountRows b =
+    let n = min (seatsOf b) 16 in
+    row (le (b .«big_blind» .value) zerof || isNan (b .«big_blind» .value)) (Build InvalidBigBlind)
+    ∷ row (invalid (smallBlindOf b)) (Build InvalidSmallBlind)
+    ∷ row (invalid (anteOf b)) (Build InvalidAnte)
+    ∷ row (anyInvalid n (b .stacks .list)) (Build InvalidStack)
+    ∷ row (isStarting b && ltb (aboveOf n (b .stacks .list)) 2) (Build InsufficientActivePlayers)
+    ∷ []
 
-abbrev pub verdictOf : GameStateBuilder → BuildAnswer
-verdictOf b = amountsFault b (listsFault b (soundOf (builtOf b)))
+-- 4, 10, 11, 12
+abbrev pub listRows : GameStateBuilder → List Row
+listRows b =
+    row (leb (seatsOf b) (dealerOf b)) (Build InvalidDealerIndex)
+    ∷ row (b .hands .given && not (eqb (b .hands .value) (seatsOf b))) (Build HandsLengthMismatch)
+    ∷ row (b .«player_bet» .given && not (eqb (b .«player_bet» .len) (seatsOf b))) (Build PlayerBetLengthMismatch)
+    ∷ row (not (boardSize (boardLenOf b))) (Build InvalidBoardSize)
+    ∷ []
 
-abbrev pub gives : GameStateBuilder → BuildAnswer → BuildStep
-gives b Built = record { answer = Built; table = builtOf b }
-gives b (NotBuilt r) = record { answer = NotBuilt r; table = noTable }
+-- R5.3: then the cards, and 19 unless the record that would be built is sound
+abbrev pub rowsFor : GameStateBuilder → Bool → List Row
+rowsFor b sound = toldRows b ++ (amountRows b ++ (listRows b ++ (cardRows (min (boardLenOf b) 5) 0 (b .board .list) ++ row (not sound) (Added BadRecord) ∷ [])))
+
+abbrev pub buildRows : GameStateBuilder → List Row
+buildRows b = rowsFor b (soundOf (builtOf b))
+
+-- ---- R5.10: the build
+abbrev pub builtStep : GameStateBuilder → BuildStep
+builtStep b = record { answer = Stands; table = builtOf b }
+
+abbrev pub notBuilt : Refusal → BuildStep
+notBuilt r = record { answer = Refused r; table = noTable }
 
 unfoldable pub buildOf : GameStateBuilder → BuildStep
-buildOf b = gives b (verdictOf b)
-
--- the paper's number of an answer
-abbrev pub buildNumber : BuildAnswer → ℕ
-buildNumber Built = 0
-buildNumber (NotBuilt r) = Number.numberOf r
+buildOf b = answer (builtStep b) notBuilt (judge (buildRows b))

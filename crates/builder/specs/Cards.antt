@@ -1,17 +1,16 @@
--- The board's cards: numbers 0 to 51, up to five. Definitions only.
+-- R5.2, R5.3: the board's cards: numbers 0 to 51, up to five. Definitions only.
 use Prim.Native.Nat.{ℕ, zero, suc, _+_, min}
 use mathlib.Core.Bool.{Bool, false, _&&_, _||_}
-use mathlib.Core.List.{List}
+use mathlib.Core.List.{List, [], _∷_}
 use lib.Dec.{eqb, leb}
 use lib.ListN.{getD, replicate}
-use Rattle.amounts.specs.Filled.{filled}
+use Rattle.commons.specs.Filled.{filled}
 use Rattle.refusals.specs.declared.Refusal.the-variants.{Build, Added}
 use Rattle.refusals.specs.declared.GameStateBuilderError.the-variants.{DuplicateCard}
 use Rattle.refusals.specs.declared.AddedError.the-variants.{BadCard}
-use Rattle.builder.specs.declared.BuildAnswer.{BuildAnswer}
-use Rattle.builder.specs.Given.{giveIf}
+use Rattle.refusals.specs.Rows.{Row, row}
 
--- the first n cards of a list, zeros after them
+-- R5.2: the first n cards of a list, zeros after them
 abbrev pub cardsTo : ℕ → List ℕ → List ℕ
 cardsTo n l = filled (min n 5) (replicate 5 0) (λ i. getD l i 0)
 
@@ -20,14 +19,11 @@ unfoldable pub seenTo : ℕ → ℕ → List ℕ → Bool
 seenTo zero c l = false
 seenTo (suc k) c l = seenTo k c l || eqb (getD l k 0) c
 
--- of the k cards from place i on: "card by card 18 before 13"
-unfoldable pub cardsFrom : ℕ → ℕ → List ℕ → BuildAnswer → BuildAnswer
-cardsFrom zero i l rest = rest
-cardsFrom (suc k) i l rest =
-    giveIf (leb 52 (getD l i 0)) (Added BadCard)
-    (giveIf (seenTo i (getD l i 0) l) (Build DuplicateCard)
-    (cardsFrom k (i + 1) l rest))
+-- R5.3: of the k cards from place i on: for each card 18, and then 13
+unfoldable pub cardRows : ℕ → ℕ → List ℕ → List Row
+cardRows zero i l = []
+cardRows (suc k) i l = row (leb 52 (getD l i 0)) (Added BadCard) ∷ row (seenTo i (getD l i 0) l) (Build DuplicateCard) ∷ cardRows k (i + 1) l
 
--- "not 0, 3, 4 or 5" is refused
+-- R5.3: none, or 3 to 5 cards
 abbrev pub boardSize : ℕ → Bool
 boardSize n = eqb n 0 || (leb 3 n && leb n 5)

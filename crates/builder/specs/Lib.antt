@@ -1,4 +1,3 @@
 pub mod Build
 pub mod Cards
-pub mod Given
 pub mod Setters

@@ -4,25 +4,13 @@ ghost use mathlib.Core.Bool.{cond};
 ghost use lib.ListN.{length};
 ghost use Prim.Native.Nat.{_≤_, min};
 ghost use Rattle.builder.specs.Build.{activeAt, allInAt, activeSeats, allInSeats};
-ghost use Rattle.builder.specs.Cards.{cardsTo, seenTo, cardsFrom, boardSize};
-ghost use Rattle.builder.specs.Given.{giveIf, refuseIf};
-use crate::BuildAnswer;
+ghost use Rattle.refusals.specs.Rows.{judgeThen};
+ghost use Rattle.builder.specs.Cards.{cardsTo, seenTo, cardRows, boardSize};
 use refusals::AddedError;
 use refusals::GameStateBuilderError;
 use refusals::Refusal;
-
-// The refusal if the test holds, else what follows.
-pub fn give_if(test: bool, r: Refusal, rest: BuildAnswer) -> BuildAnswer
-    ensures { λ a. ⌜ a ≡ giveIf test r rest ⌝ }
-{
-    if test { BuildAnswer::NotBuilt(r) } else { rest }
-}
-
-pub fn refuse_if(test: bool, e: GameStateBuilderError, rest: BuildAnswer) -> BuildAnswer
-    ensures { λ a. ⌜ a ≡ refuseIf test e rest ⌝ }
-{
-    give_if(test, Refusal::Build(e), rest)
-}
+use refusals::Verdict;
+use refusals::give_if;
 
 pub fn amount_or(given: bool, value: f32, other: f32) -> f32
     ensures { λ r. ⌜ r ≡ cond given value other ⌝ }
@@ -40,22 +28,16 @@ pub fn number_or(given: bool, value: usize, other: usize) -> usize
 pub fn cards_of(s: &[u8]) -> [u8; 5]
     ensures { λ r. ⌜ r ≡ cardsTo (length (now (s .entry))) (now (s .entry)) ⌝ }
 {
-    let n = amounts::smaller(s.len(), 5);
     let mut out = [0u8; 5];
-    for i in 0..n {
-        out[i] = s[i];
-    }
+    commons::copying::copy_u8(&mut out, 0, s, 0, 5);
     out
 }
 
 pub fn kept_cards(list: [u8; 5], len: usize) -> [u8; 5]
     ensures { λ r. ⌜ r ≡ cardsTo len list ⌝ }
 {
-    let n = amounts::smaller(len, 5);
     let mut out = [0u8; 5];
-    for i in 0..n {
-        out[i] = list[i];
-    }
+    commons::copying::copy_u8(&mut out, 0, &list, 0, len);
     out
 }
 
@@ -78,10 +60,10 @@ fn is_seen(list: [u8; 5], k: usize, card: u8) -> bool
 }
 
 // The first fault of the cards, or what follows: from the last card down, so that an earlier one is given before it.
-pub fn card_fault(list: [u8; 5], len: usize, rest: BuildAnswer) -> BuildAnswer
-    ensures { λ r. ⌜ r ≡ cardsFrom (min len 5) 0 list rest ⌝ }
+pub fn card_fault(list: [u8; 5], len: usize, rest: Verdict) -> Verdict
+    ensures { λ r. ⌜ r ≡ judgeThen (cardRows (min len 5) 0 list) rest ⌝ }
 {
-    let n = amounts::smaller(len, 5);
+    let n = commons::smaller(len, 5);
     let mut fault = rest;
     let mut i = n;
     while 0 < i {
@@ -113,7 +95,7 @@ fn is_all_in(starting: bool, stack: f32, bet: f32) -> bool
 pub fn active_seats(starting: bool, len: usize, stacks: [f32; 16], bets: [f32; 16]) -> u16
     ensures { λ r. ⌜ r ≡ activeSeats starting len stacks bets ⌝ }
 {
-    let n = amounts::smaller(len, 16);
+    let n = commons::smaller(len, 16);
     let mut set = 0u16;
     for i in 0..n {
         set = seats::bits::with_if(is_active(starting, stacks[i], bets[i]), set, i);
@@ -124,7 +106,7 @@ pub fn active_seats(starting: bool, len: usize, stacks: [f32; 16], bets: [f32; 1
 pub fn all_in_seats(starting: bool, len: usize, stacks: [f32; 16], bets: [f32; 16]) -> u16
     ensures { λ r. ⌜ r ≡ allInSeats starting len stacks bets ⌝ }
 {
-    let n = amounts::smaller(len, 16);
+    let n = commons::smaller(len, 16);
     let mut set = 0u16;
     for i in 0..n {
         set = seats::bits::with_if(is_all_in(starting, stacks[i], bets[i]), set, i);

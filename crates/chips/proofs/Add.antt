@@ -12,7 +12,7 @@ use lib.Ieee.Fits.{up-pos, down-pos}
 use lib.Ieee.Exact.{HasValue}
 use lib.Ieee.Positive.{num, den, den-pos}
 use borrow.Author.Tests.{lt-ltb, le-ltb}
-use Rattle.seats.proofs.First.{lt-or-le}
+use Rattle.commons.proofs.Order.{lt-or-le}
 use Rattle.chips.proofs.Value.{Plain, Val, Is, of-value, both-plain, unsigned}
 use Rattle.chips.proofs.Round.{exact}
 

@@ -12,10 +12,9 @@ use lib.Ieee.{Float, nan, inf, fin, binary32, up, down, sub, lt, isNan}
 use lib.Ieee.Fits.{down-pos}
 use lib.Ieee.Exact.{HasValue}
 use borrow.Author.Tests.{lt-ltb, le-ltb, le-leb, lt-leb}
-use Rattle.seats.proofs.First.{lt-or-le}
+use Rattle.commons.proofs.Order.{lt-or-le, is-eqb}
 use Rattle.floats.specs.Helpers.{maxOf, minOf, absOf, nearZero, epsilon, one, zerof}
 use Rattle.bets.specs.Bet.{raiseBy}
-use Rattle.chips.proofs.Compare.{is-eqb}
 use Rattle.chips.proofs.Value.{Plain, Val, Is, unsigned, lt-whole, le-val}
 use Rattle.chips.proofs.Add.{sub-whole, sub-negative}
 

@@ -1,4 +1,3 @@
-pub mod Compare
 pub mod Value
 pub mod Round
 pub mod Add
@@ -9,7 +8,6 @@ pub mod Bet
 pub mod Rule
 pub mod Paid
 pub mod Whole
-pub mod Sums
 pub mod Lists
 pub mod Examples
 pub mod Promises

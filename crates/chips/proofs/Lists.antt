@@ -7,11 +7,11 @@ use mathlib.Core.List.{List}
 use mathlib.Core.Bool.{true, false}
 use lib.ListN.{length, getD, List·getD-eq-default}
 use lib.Ieee.{Float, nan, binary32, add, le}
-use Rattle.chips.specs.Sums.{sumTo}
+use Rattle.commons.specs.Folds.{sumTo}
 use Rattle.chips.specs.Whole.{most, isWhole, chipsIn, allWhole, sumChips}
 use Rattle.chips.proofs.Value.{Is}
 use Rattle.chips.proofs.Add.{add-whole}
-use Rattle.chips.proofs.Sums.{sum-most, sum-gap, all-at, all-not}
+use Rattle.commons.proofs.Folds.{sum-most, sum-gap, all-at, all-not}
 use Rattle.chips.proofs.Whole.{whole-is, chips-le}
 
 pub whole-at : (l : List Float) (n : ℕ) → allWhole l n ≡ true → (i : ℕ) → i < n → isWhole (getD l i nan) ≡ true

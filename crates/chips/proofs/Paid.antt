@@ -8,10 +8,10 @@ use lib.Ieee.{Float, binary32, add, sub, lt}
 use Rattle.floats.specs.Helpers.{maxOf, nearZero}
 use Rattle.bets.specs.declared.BetSize.{BetSize}
 use Rattle.bets.specs.declared.BetSize.the-variants.{Pays}
-use Rattle.bets.specs.Bet.{betSize}
+use Rattle.bets.specs.Bet.{facing, betSize}
 use Rattle.chips.specs.Whole.{most}
 use Rattle.chips.specs.Rule.{Amount, Ruling, pays, ruleOf}
-use Rattle.chips.proofs.Compare.{ltb-same, eqb-same}
+use Rattle.commons.proofs.Order.{ltb-same, eqb-same}
 use Rattle.chips.proofs.Value.{Is, lt-whole}
 use Rattle.chips.proofs.Add.{add-whole, sub-whole}
 use Rattle.chips.proofs.Helpers.{max-whole, near-zero}
@@ -51,5 +51,5 @@ module _ {p k b m : Float} {P K B M : ℕ} (hp : Is p P) (hk : Is k K) (hb : Is 
       }
 
   -- the rule's payment
-  pub accepted : (a : Float) (n : Amount) → Means a n → (x : Float) → betSize a p k b m ≡ Pays x → (X : ℕ) × (ruleOf n P K B M ≡ pays X) × Is x X
+  pub accepted : (a : Float) (n : Amount) → Means a n → (x : Float) → betSize a (facing p k b m) ≡ Pays x → (X : ℕ) × (ruleOf n P K B M ≡ pays X) × Is x X
   accepted a n h x e = pays-too (subst (λ (s : BetSize). Same s (ruleOf n P K B M)) e (bet-is hp hk hb hm fit fits a n h))

@@ -16,7 +16,7 @@ use lib.Ieee.Order.{round-mono}
 use lib.Ieee.Scale.{round-same}
 use lib.Ieee.Positive.{num, den, den-pos}
 use borrow.Author.Tests.{lt-ltb, le-ltb, leb-true}
-use Rattle.seats.proofs.First.{lt-or-le}
+use Rattle.commons.proofs.Order.{lt-or-le}
 use Rattle.chips.proofs.Value.{Plain, Val, Is, own, of-value, lt-val, le-val}
 
 module _ (f : Format) where

@@ -14,7 +14,7 @@ use lib.Ieee.Positive.{num, den, positive-of-value, mul-at}
 use borrow.Author.Tests.{lt-ltb, le-ltb}
 use Rattle.floats.specs.Helpers.{tolOf, epsilon, thousand}
 use Rattle.chips.specs.Whole.{most}
-use Rattle.chips.proofs.Compare.{ltb-same, is-ltb, is-eqb}
+use Rattle.commons.proofs.Order.{ltb-same, is-ltb, is-eqb}
 use Rattle.chips.proofs.Value.{Val, Is, of-value, lt-val}
 use Rattle.chips.proofs.Round.{exact, under, not-under}
 use Rattle.chips.proofs.Add.{add-round, positive-round, over-pos, over-right, num-left}

@@ -12,7 +12,7 @@ use lib.Ieee.Exact.{HasValue}
 use lib.Ieee.Order.{transfer}
 use lib.Ieee.Positive.{num, den, den-pos}
 use borrow.Author.Tests.{le-ltb}
-use Rattle.chips.proofs.Compare.{ltb-same, eqb-same, lt-or-eq}
+use Rattle.commons.proofs.Order.{ltb-same, eqb-same, lt-or-eq}
 
 -- finite, and with a sign only where it is 0
 abbrev pub Plain : Float → Type 0

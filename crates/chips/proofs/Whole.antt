@@ -15,11 +15,10 @@ use lib.Ieee.Back.{round-whole}
 use lib.Ieee.Fits.{up-pos, down-pos, and-l}
 use lib.Ieee.Positive.{num, den, den-pos}
 use borrow.Author.Tests.{le-leb, eq-eqb, eqb-true}
-use Rattle.refusals.proofs.Tests.{each}
-use Rattle.seats.proofs.First.{either}
+use Rattle.commons.proofs.Bools.{either, and-both, told}
 use Rattle.floats.specs.Helpers.{zerof}
 use Rattle.chips.specs.Whole.{most, inRange, isWhole, chipsIn}
-use Rattle.chips.proofs.Compare.{eqb-same, and-both}
+use Rattle.commons.proofs.Order.{eqb-same}
 use Rattle.chips.proofs.Value.{Plain, Is, own, of-value, unsigned, lt-val, le-val, eq-val, le-whole}
 use Rattle.chips.proofs.Round.{inf-le}
 use Rattle.chips.proofs.Add.{no-factor}
@@ -58,7 +57,7 @@ between x h l =
     record { plain = p; size = rw mul-one at (leb→le (num x * 1) (most * den x) (rw (le-val (own x p) most-is) at l)) }
 
 pub in-range : (x : Float) → inRange x ≡ true → Between x
-in-range x e = let t = each (le zerof x ∷ le x (ofInt binary32 (pos most)) ∷ []) e in between x (t .0) (t .1)
+in-range x e = let t = and-both (le zerof x) (le x (ofInt binary32 (pos most))) e in between x (told _ (t .0)) (told _ (t .1))
 
 above-minus-one : (x : Float) → Plain x → T (lt (fin true 1 (pos 0)) x)
 unfolding lt

@@ -1,4 +1,4 @@
--- Document 01, "Good order" and "Settlement": amounts that are whole numbers 0 to 8,000; -0.0 is 0. Definitions only.
+-- R10.1: amounts that are whole numbers 0 to 8,000; -0.0 is 0. Definitions only.
 use Prim.Native.Nat.{ℕ, _/_, _%_}
 use mathlib.Core.Bool.{Bool, cond, _&&_}
 use mathlib.Core.List.{List}
@@ -8,9 +8,9 @@ use lib.ListN.{getD}
 use lib.Ieee.{Float, nan, binary32, le, ofInt}
 use lib.Ieee.Positive.{num, den}
 use Rattle.floats.specs.Helpers.{zerof}
-use Rattle.chips.specs.Sums.{sumTo, allTo}
+use Rattle.commons.specs.Folds.{sumTo, allTo}
 
--- the most chips that a table in good order holds
+-- R10.1, R10.7: the most chips that a table in good order holds
 abbrev pub most : ℕ
 most = 8000
 

@@ -5,15 +5,16 @@ use mathlib.Core.List.{List, [], _∷_, map}
 use Prim.Native.String.{String}
 use lib.IntN.{pos, negsuc}
 use lib.Ieee.{Float, nan, inf, fin, toUnsigned, ofInt, eq, lt, le, add, isNan, round, units, odd, size, climb, span}
-use Rattle.amounts.specs.Filled.{filled}
+use Rattle.commons.specs.Filled.{filled}
 use Rattle.amounts.specs.Amounts.{sumOf, aboveOf, anyInvalid}
 use Rattle.seats.specs.Bits.{has, upTo, with, seatsWhere}
-use Rattle.seats.specs.First.{firstFrom}
+use Rattle.commons.specs.First.{firstFrom}
 use Rattle.rounds.specs.Walk.{distance, walkOf}
 use Rattle.table.specs.Rounds.{firstTurn, advanceOf, completeOf}
-use Rattle.table.specs.Sound.{cardsOk, boardOk, soundParts}
-use Rattle.builder.specs.Build.{smallBlindOf, dataFor, builtOf, amountsFault, listsFault, buildOf}
-use Rattle.builder.specs.Cards.{cardsFrom}
+use Rattle.table.specs.Added.{goodAdded}
+use Rattle.table.specs.Sound.{cardsOk, boardOk, soundFrame}
+use Rattle.builder.specs.Build.{smallBlindOf, dataFor, builtOf}
+use Rattle.builder.specs.Cards.{cardRows, seenTo}
 use Rattle.script.specs.declared.print.Amount.{Amount}
 use Rattle.script.specs.declared.print.Amount.the-variants.{Whole, NotWhole}
 use Rattle.script.specs.Ascii.{bytes}
@@ -56,5 +57,5 @@ pub right :
     (map (λ r. playScript (bytes (r .0))) scripts ≡ map (λ r. bytes (r .1)) scripts)
     × (map (λ r. amountOf (r .0)) amounts ≡ map (λ r. r .1) amounts)
     × (tooLongLine ≡ bytes "0 26 - - - -\n")
-unfolding toUnsigned ofInt eq lt le add isNan round units odd size climb span filled sumOf aboveOf anyInvalid has upTo with seatsWhere firstFrom distance walkOf smallBlindOf dataFor builtOf amountsFault listsFault buildOf cardsFrom firstTurn advanceOf completeOf cardsOk boardOk soundParts asked allDigits unpadded valueAfter isNumber digitsIn decimal amountText viewText lineText pieces lines allNumbers firsts lettered wordsOf amountsFrom openingOf needing ranked actOf amountOf viewOf atStart said after playLines playScript
+unfolding toUnsigned ofInt eq lt le add isNan round units odd size climb span filled sumOf aboveOf anyInvalid has upTo with seatsWhere firstFrom distance walkOf smallBlindOf dataFor builtOf cardRows seenTo firstTurn advanceOf completeOf cardsOk boardOk goodAdded soundFrame asked allDigits unpadded valueAfter isNumber digitsIn decimal amountText viewText lineText pieces lines allNumbers firsts lettered wordsOf amountsFrom openingOf needing ranked actOf amountOf viewOf atStart said after playLines playScript
 right = (refl, refl, refl)

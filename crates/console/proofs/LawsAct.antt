@@ -5,8 +5,9 @@ use mathlib.Core.List.{List}
 use Prim.Native.Nat.{ℕ, _≤_}
 use borrow.Author.Tests.{eq-eqb}
 use lib.ListN.{length, take}
+use Rattle.refusals.specs.Rows.{verdictNumber}
 use Rattle.settlement.specs.declared.Settled.{Settled}
-use Rattle.settlement.specs.Settlement.{settledOf, settleNumber}
+use Rattle.settlement.specs.Settlement.{settledOf}
 use Rattle.script.specs.declared.line.Words.{Words}
 use Rattle.script.specs.declared.line.Line.{Line}
 use Rattle.script.specs.declared.print.View.{View}
@@ -27,7 +28,7 @@ does w s e d = d ∙ ap (done s w) (sym e)
 
 -- a settlement whose ranks are as many as the seats; what it gives is not looked at
 pub ranks : (s : State) (count : ℕ) (ns : List ℕ) {rs : List ℕ} {r : Settled} {k : ℕ} {a : Act} → count ≡ s .table .«num_players» → rs ≡ take 16 ns → r ≡ settledOf (s .table) rs
-    → k ≡ settleNumber (r .answer) → a ≡ needing s k (r .table) → a ≡ ranked s count ns
+    → k ≡ verdictNumber (r .answer) → a ≡ needing s k (r .table) → a ≡ ranked s count ns
 unfolding ranked
 ranks s count ns {r = r} n e g m d =
     let paid : ranked s count ns ≡ settled s (settledOf (s .table) (take 16 ns)) = rw (eq-eqb count (s .table .«num_players») n) refl in

@@ -7,10 +7,11 @@ use mathlib.Core.Bool.{Bool, true, false, cond}
 use mathlib.Core.List.{List}
 use lib.Dec.{eqb}
 use lib.ListN.{take}
+use Rattle.commons.proofs.Bools.{pick}
+use Rattle.refusals.specs.declared.Verdict.{Verdict}
+use Rattle.refusals.specs.declared.Verdict.the-variants.{Stands, Refused}
 use Rattle.table.specs.declared.GameState.{GameState}
-use Rattle.table.proofs.LawsBack.{pick, bet-back, fold-back, advance-back, complete-back}
-use Rattle.builder.specs.declared.BuildAnswer.{BuildAnswer}
-use Rattle.builder.specs.declared.BuildAnswer.the-variants.{Built, NotBuilt}
+use Rattle.table.proofs.LawsRows.{bet-back, fold-back, advance-back, complete-back}
 use Rattle.settlement.specs.Settlement.{settledOf}
 use Rattle.settlement.proofs.Accepted.{refusal-keeps}
 use Rattle.script.specs.declared.line.Words.{Words}
@@ -20,7 +21,7 @@ use Rattle.script.specs.Line.{meaningOf}
 use Rattle.console.specs.declared.act.State.{State}
 use Rattle.console.specs.declared.act.Act.{Act}
 use Rattle.console.specs.Opening.{chipsOf, openingOf}
-use Rattle.console.specs.Act.{standing, badLine, needing, settled, ranked, openedBy, done, actOf}
+use Rattle.console.specs.Act.{standing, badLine, needing, settled, ranked, opened, done, actOf}
 
 -- what stood is left unless the line was accepted
 abbrev pub Kept : State → Act → Type 0
@@ -34,9 +35,9 @@ needing-back s k t b = go (s .stands) refl
     go true e h = rw (b h, ← e) refl
     go false e h = refl
 
-opened-back : (s : State) (t : GameState) (a : BuildAnswer) → Kept s (openedBy s t a)
-opened-back s t Built h = absurd (h refl)
-opened-back s t (NotBuilt r) h = refl
+opened-back : (s : State) (t : GameState) (a : Verdict) → Kept s (opened s (record { answer = a; table = t }))
+opened-back s t Stands h = absurd (h refl)
+opened-back s t (Refused r) h = refl
 
 ranked-back : (s : State) (count : ℕ) (ns : List ℕ) → Kept s (ranked s count ns)
 unfolding ranked

@@ -8,22 +8,20 @@ use native.Mathlib.Omega.{arith}
 use borrow.Author.Tests.{le-leb, lt-leb, leb-false, ltb-false}
 use lib.Dec.{leb, ltb}
 use lib.ListN.{length, take, drop}
-use lib.Seq.{paste, take-at}
+use lib.Seq.{take-at}
+use Rattle.commons.specs.Filled.{copied}
+use Rattle.commons.proofs.Bools.{or-neither}
+use Rattle.commons.proofs.Pasted.{copied-pasted}
 use Rattle.script.specs.declared.print.Text.{Text}
 use Rattle.script.specs.Text.{textOf}
-use Rattle.script.proofs.LawsPrint.{text-bytes}
+use Rattle.script.proofs.LawsPrint.{text-bytes, text-size}
 use Rattle.console.specs.declared.play.Console.{Console}
 use Rattle.console.specs.Play.{tooLongLine}
 use Rattle.console.specs.Parts.{Part, partIs, partFrom, refusedPart, scriptPart, playedOf, over}
 
 -- what is left to say, and room for it
 pub is-left : (n at room : ℕ) → (leb n at || ltb room 72) ≡ false → (at < n) × (72 ≤ room)
-is-left n at room e = go (leb n at) (ltb room 72) refl refl e
-  where
-    go : (t u : Bool) → leb n at ≡ t → ltb room 72 ≡ u → (t || u) ≡ false → (at < n) × (72 ≤ room)
-    go false false p q e = (leb-false _ _ p, ltb-false _ _ q)
-    go false true p q e = absurd (let z : _≡_ {A = ℕ} 0 1 = cc in omega arith)
-    go true u p q e = absurd (let z : _≡_ {A = ℕ} 0 1 = cc in omega arith)
+is-left n at room e = let b = or-neither (leb n at) (ltb room 72) e in (leb-false _ _ (b .0), ltb-false _ _ (b .1))
 
 module _ (n at : ℕ) (c : Console) (room : ℕ) where
   pub says-nothing : (leb n at || ltb room 72) ≡ true → refusedPart n at c room ≡ partIs [] at c
@@ -39,22 +37,20 @@ module _ {p : Part} {at : ℕ} {c : Console} (d : List ℕ) where
   pub kept-so : p ≡ partIs [] at c → (record { at = at; console = c; len = 0 } ≡ playedOf p) × (d ≡ over (p .bytes) d)
   kept-so e = (rw e refl, rw e refl)
 
-  pub laid-so : {l : List ℕ} {t : Text} {d′ : List ℕ} → p ≡ partIs l at c → t ≡ textOf l → d′ ≡ paste d 0 (t .bytes) (t .len)
+  pub laid-so : {l : List ℕ} {t : Text} {d′ : List ℕ} → p ≡ partIs l at c → t ≡ textOf l → length l ≤ 72 → 72 ≤ length d → d′ ≡ copied 0 0 d 0 (t .bytes) (t .len)
       → (record { at = at; console = c; len = t .len } ≡ playedOf p) × (d′ ≡ over (p .bytes) d)
   unfolding textOf
-  laid-so {l} {t} e is lay =
+  laid-so {l} {t} e is f h lay =
       let a : t .len ≡ length l = ap (λ (x : Text). x .len) is in
       let b : take (length l) (t .bytes) ≡ l = ap (λ (x : Text). take (length l) (x .bytes)) is ∙ text-bytes l in
+      let n : length (t .bytes) ≡ 72 = ap (λ (x : Text). length (x .bytes)) is ∙ text-size l f in
       let z : 0 + length l ≡ length l = omega arith in
-      (rw (e, a) refl, rw (lay, e, a, b, z) refl)
+      let q = lay ∙ copied-pasted 0 0 d (t .bytes) (t .len) (omega arith) (omega arith) in
+      (rw (e, a) refl, rw (q, e, a, b, z) refl)
 
 -- the first bytes of the buffer are those of the part
 pub written : (bs d : List ℕ) → take (length bs) (over bs d) ≡ bs
 written bs d = take-at bs (drop (length bs) d) (length bs) refl
-
-pub text-fits : (l : List ℕ) {t : Text} → t ≡ textOf l → length l ≤ 72 → t .len ≤ 72
-unfolding textOf
-text-fits l is h = rw is h
 
 module _ (s : List ℕ) (at : ℕ) (c : Console) (room : ℕ) where
   pub part-short : length s ≤ 65536 → scriptPart s at c room ≡ partFrom s at c room

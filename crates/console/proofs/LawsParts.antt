@@ -6,6 +6,8 @@ use Prim.Native.Nat.{ℕ, _+_, _-_, _≤_, _<_}
 use native.Mathlib.Omega.{arith}
 use borrow.Author.Tests.{lt-ltb, le-ltb}
 use lib.ListN.{length, drop, take, drop-of-length-le, take-append-drop}
+use Rattle.commons.specs.Filled.{copied}
+use Rattle.commons.proofs.Pasted.{copied-pasted}
 use lib.Seq.{paste, take-paste, drop-paste, length-paste, drop-drop, length-take-le}
 use Rattle.script.specs.declared.line.Words.{Words}
 use Rattle.script.specs.declared.reader.Read.{Read}
@@ -78,7 +80,7 @@ module _ {s : List ℕ} {at : ℕ} {c : Console} {room : ℕ} {read : Read} {tur
   bytes-are : take (turn .text .len) (turn .text .bytes) ≡ line
   bytes-are = rw (len-is, x .taken) (text-bytes line)
 
-  pub laid-short : turn .text .len ≤ 72
+  laid-short : turn .text .len ≤ 72
   laid-short = omega (arith, len-is, x .short)
 
   all-there : turn .text .len ≤ length (turn .text .bytes)
@@ -102,10 +104,11 @@ module _ {s out₀ : List ℕ} {at₀ : ℕ} {c₀ : Console} {out : List ℕ} {
     pub fits : n + turn .text .len ≤ length out
     fits = omega (arith, laid-short x, x .roomy, f .within)
 
-    pub goes-on : (out′ : List ℕ) → out′ ≡ paste out n (turn .text .bytes) (turn .text .len) → Sofar s out₀ at₀ c₀ out′ (read .next) (turn .console) (n + turn .text .len)
-    goes-on out′ e =
+    pub goes-on : (out′ : List ℕ) → out′ ≡ copied 0 n out 0 (turn .text .bytes) (turn .text .len) → Sofar s out₀ at₀ c₀ out′ (read .next) (turn .console) (n + turn .text .len)
+    goes-on out′ lay =
         let k = turn .text .len in
         let bs = turn .text .bytes in
+        let e : out′ ≡ paste out n bs k = lay ∙ copied-pasted 0 n out bs k fits (all-there x) in
         let lo : length out′ ≡ length out = ap length e ∙ length-paste out n bs k fits (all-there x) in
         let r : length out₀ - n - k ≡ length out₀ - (n + k) = omega arith in
         let q : length out - n ≡ length out₀ - n = omega (arith, f .long) in

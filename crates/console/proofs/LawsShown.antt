@@ -12,6 +12,7 @@ use lib.Ieee.{Float, nan, inf, fin, binary32, up, down, lt, eq, toUnsigned, ofIn
 use lib.Ieee.Fits.{down-pos}
 use lib.Ieee.Exact.{HasValue}
 use lib.Ieee.Back.{round-whole, unsigned-back}
+use Rattle.commons.proofs.Bools.{differ}
 use Rattle.script.specs.declared.print.Amount.the-variants.{Whole, NotWhole}
 use Rattle.console.specs.Opening.{chipsOf}
 use Rattle.console.specs.Shown.{wholePart, amountOf}
@@ -19,9 +20,6 @@ use Rattle.console.specs.Shown.{wholePart, amountOf}
 zero-float : chipsOf 0 ≡ fin false 0 (pos 0)
 unfolding ofInt round units odd size climb span
 zero-float = refl
-
-clash : {A : Type 0} → true ≡ false → A
-clash e = absurd (let z : _≡_ {A = ℕ} 0 1 = cc in omega arith)
 
 no-eq : (x : Float) → eq (chipsOf (wholePart x)) x ≡ false → amountOf x ≡ NotWhole
 unfolding amountOf
@@ -35,7 +33,7 @@ pub low : (x : Float) → lt (fin true 1 (pos 0)) x ≡ false → amountOf x ≡
 unfolding lt eq toUnsigned
 low nan h = no-eq nan (rw zero-float refl)
 low (inf true) h = no-eq (inf true) (rw zero-float refl)
-low (inf false) h = clash h
+low (inf false) h = absurd (differ true refl h)
 low (fin false m e) h = absurd (omega (arith, ltb-false 0 (1 * up (pos 0) * down e + m * up e * down (pos 0)) h, down-pos e))
 low (fin true m e) h =
     no-eq (fin true m e)
@@ -44,7 +42,7 @@ low (fin true m e) h =
 pub high : (x : Float) → lt x (fin false 1 (pos 64)) ≡ false → amountOf x ≡ NotWhole
 unfolding lt eq toUnsigned amountOf
 high nan h = no-eq nan (rw zero-float refl)
-high (inf true) h = clash h
+high (inf true) h = absurd (differ true refl h)
 high (inf false) h = refl
 high (fin true m e) h = absurd (omega (arith, ltb-false 0 (m * up e * down (pos 64) + 1 * up (pos 64) * down e) h, down-pos e))
 high (fin false m e) h =

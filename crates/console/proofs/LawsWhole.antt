@@ -9,6 +9,7 @@ use native.Mathlib.Omega.{arith}
 use borrow.Author.Tests.{le-ltb, le-leb, lt-leb, leb-true, leb-false, ltb-true, ltb-false}
 use lib.Dec.{ltb, leb}
 use lib.ListN.{length, drop, drop-of-length-le}
+use Rattle.commons.proofs.Bools.{either}
 use Rattle.script.specs.Split.{lines}
 use Rattle.script.specs.Words.{wordsOf}
 use Rattle.script.specs.Read.{lineFrom, readAt}
@@ -18,10 +19,6 @@ use Rattle.console.specs.Play.{atStart, said, after, playLines, tooLongL
 use Rattle.console.specs.Parts.{Part, partIs, ahead, partOf, partFrom, refusedPart, scriptPart}
 use Rattle.console.proofs.LawsParts.{wordsAt, plays}
 use Rattle.console.proofs.LawsLong.{says-nothing, says-one, is-left, part-short, part-long}
-
-either : (t : Bool) → (t ≡ true) ⊎ (t ≡ false)
-either true = inl refl
-either false = inr refl
 
 -- what is printed from a place to the script's end
 abbrev pub playFrom : List ℕ → ℕ → Console → List ℕ

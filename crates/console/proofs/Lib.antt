@@ -1,4 +1,3 @@
-pub mod Laying
 pub mod LawsOpening
 pub mod LawsShown
 pub mod LawsAct

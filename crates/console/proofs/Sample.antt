@@ -5,24 +5,24 @@ use Prim.Native.Nat.{ℕ}
 use Prim.Native.String.{String}
 use lib.Ieee.{toUnsigned, ofInt, eq, ne, lt, le, add, sub, mul, div, isNan, round, units, odd, size, climb, span}
 use Rattle.floats.specs.Helpers.{maxOf, minOf, signOf, absOf, tolOf, nearZero}
-use Rattle.amounts.specs.Filled.{filled}
+use Rattle.commons.specs.Filled.{filled}
 use Rattle.amounts.specs.Amounts.{sumOf, aboveOf, anyInvalid}
-use Rattle.bets.specs.Bet.{sized, betSize, sizeFor}
 use Rattle.seats.specs.Bits.{has, upTo, with, without, countTo, seatsWhere}
-use Rattle.seats.specs.First.{firstFrom}
+use Rattle.commons.specs.First.{firstFrom}
+use Rattle.rounds.specs.Paying.{owingAfter}
 use Rattle.rounds.specs.Walk.{distance, walkOf}
-use Rattle.table.specs.Pay.{owingAfter, roomFor, judged, betOf, foldOf}
+use Rattle.table.specs.Pay.{betOf, foldOf}
 use Rattle.table.specs.Rounds.{firstTurn, advanceOf}
-use Rattle.table.specs.Sound.{cardsOk, boardOk, soundParts}
-use Rattle.builder.specs.Build.{smallBlindOf, dataFor, builtOf, amountsFault, listsFault, buildOf}
-use Rattle.builder.specs.Cards.{cardsFrom}
-use Rattle.chips.specs.Sums.{sumTo, allTo}
+use Rattle.table.specs.Added.{goodAdded}
+use Rattle.table.specs.Sound.{cardsOk, boardOk, soundFrame}
+use Rattle.builder.specs.Build.{smallBlindOf, dataFor, builtOf}
+use Rattle.builder.specs.Cards.{cardRows, seenTo}
+use Rattle.commons.specs.Folds.{sumTo, allTo, mostTo, anyTo}
 use Rattle.chips.specs.Whole.{isWhole, chipsIn, allWhole, sumChips}
-use Rattle.layers.specs.Folds.{mostTo, anyTo}
 use Rattle.layers.specs.Sharing.{ahead, shareOf}
 use Rattle.layers.specs.Settlement.{contends, isLevel, top, levelBelow, isLayer, potOf, putIn, holds, reached, best, wins, share, award, isPayable, awardsOf}
 use Rattle.settlement.specs.Hand.{countedOf, firstOf}
-use Rattle.settlement.specs.Settlement.{anyWon, inChips, verdictOf, raised, raisedAll, rewardsOf, settledOf}
+use Rattle.settlement.specs.Settlement.{anyWon, inChips, raised, raisedAll, rewardsOf, settledOf}
 use Rattle.script.specs.Ascii.{bytes}
 use Rattle.script.specs.Line.{asked}
 use Rattle.script.specs.Number.{allDigits, unpadded, valueAfter, isNumber}
@@ -58,5 +58,5 @@ printed =
     ∷ []
 
 pub worked : playScript (text script) ≡ text printed
-unfolding sumTo allTo isWhole chipsIn allWhole sumChips mostTo anyTo ahead shareOf contends isLevel top levelBelow isLayer potOf putIn holds reached best wins share award isPayable awardsOf countedOf firstOf anyWon inChips verdictOf raised raisedAll rewardsOf countTo toUnsigned ofInt eq ne lt le add sub mul div isNan round units odd size climb span maxOf minOf signOf absOf tolOf nearZero filled sumOf aboveOf anyInvalid sized betSize sizeFor has upTo with without seatsWhere firstFrom distance walkOf smallBlindOf dataFor builtOf amountsFault listsFault buildOf cardsFrom owingAfter roomFor judged betOf foldOf firstTurn advanceOf cardsOk boardOk soundParts asked allDigits unpadded valueAfter isNumber digitsIn decimal amountText viewText lineText pieces lines allNumbers firsts lettered wordsOf amountsFrom openingOf needing ranked actOf settledOf amountOf viewOf atStart said after playLines playScript
+unfolding sumTo allTo isWhole chipsIn allWhole sumChips mostTo anyTo ahead shareOf contends isLevel top levelBelow isLayer potOf putIn holds reached best wins share award isPayable awardsOf countedOf firstOf anyWon inChips raised raisedAll rewardsOf countTo toUnsigned ofInt eq ne lt le add sub mul div isNan round units odd size climb span maxOf minOf signOf absOf tolOf nearZero filled sumOf aboveOf anyInvalid has upTo with without seatsWhere firstFrom distance walkOf smallBlindOf dataFor builtOf cardRows seenTo owingAfter betOf foldOf firstTurn advanceOf cardsOk boardOk goodAdded soundFrame asked allDigits unpadded valueAfter isNumber digitsIn decimal amountText viewText lineText pieces lines allNumbers firsts lettered wordsOf amountsFrom openingOf needing ranked actOf settledOf amountOf viewOf atStart said after playLines playScript
 worked = refl

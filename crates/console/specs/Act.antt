@@ -1,12 +1,12 @@
--- Document 01, "Script program": what each line does to what stands. "Another letter or count, an empty line, or a line needing a
--- table before one stands, is 25"; "A refused `t` keeps the old table." Definitions only.
+-- R12.5, R12.6, R12.8: what each line does to what stands. Definitions only.
 use Prim.Native.Nat.{ℕ}
 use mathlib.Core.Bool.{true, false, cond}
 use mathlib.Core.List.{List}
 use lib.Dec.{eqb}
 use lib.ListN.{take}
 use Rattle.refusals.specs.declared.AddedError.the-variants.{BadLine}
-use Rattle.refusals.specs.Number as Number
+use Rattle.refusals.specs.Number.{addedNumber}
+use Rattle.refusals.specs.Rows.{answer, verdictNumber}
 use Rattle.rounds.specs.Steps.{numberOf}
 use Rattle.table.specs.declared.GameState.{GameState}
 use Rattle.table.specs.declared.TableStep.{TableStep}
@@ -14,11 +14,9 @@ use Rattle.table.specs.declared.BetStep.{BetStep}
 use Rattle.table.specs.Answers.{betNumber}
 use Rattle.table.specs.Pay.{betOf, foldOf}
 use Rattle.table.specs.Rounds.{advanceOf, completeOf}
-use Rattle.builder.specs.declared.BuildAnswer.{BuildAnswer}
-use Rattle.builder.specs.declared.BuildAnswer.the-variants.{Built, NotBuilt}
 use Rattle.builder.specs.declared.BuildStep.{BuildStep}
 use Rattle.settlement.specs.declared.Settled.{Settled}
-use Rattle.settlement.specs.Settlement.{settledOf, settleNumber}
+use Rattle.settlement.specs.Settlement.{settledOf}
 use Rattle.script.specs.declared.line.Words.{Words}
 use Rattle.script.specs.declared.line.Line.{Line}
 use Rattle.script.specs.declared.line.Line.the-variants.{Table, Advance, Fold, Bet, Forced, Complete, Settle, Bad}
@@ -27,17 +25,20 @@ use Rattle.console.specs.declared.act.State.{State}
 use Rattle.console.specs.declared.act.Act.{Act}
 use Rattle.console.specs.Opening.{chipsOf, openingOf}
 
--- a number beside a table that stands, and beside what stood before the line
+-- R12.8: a number beside a table that stands, and beside what stood before the line
+abbrev pub onTable : GameState → State
+onTable t = record { stands = true; table = t }
+
 abbrev pub standing : ℕ → GameState → Act
-standing number t = record { number = number; state = record { stands = true; table = t } }
+standing number t = record { number = number; state = onTable t }
 
 abbrev pub kept : ℕ → State → Act
 kept number s = record { number = number; state = s }
 
 abbrev pub badLine : State → Act
-badLine s = kept (Number.addedNumber BadLine) s
+badLine s = kept (addedNumber BadLine) s
 
--- a line that needs a table: the number and the table that its step gives
+-- R12.6: a line that needs a table: the number and the table that its step gives; 25 where none stands
 unfoldable pub needing : State → ℕ → GameState → Act
 needing s number t = cond (s .stands) (standing number t) (badLine s)
 
@@ -48,20 +49,17 @@ abbrev pub wagered : State → BetStep → Act
 wagered s r = needing s (betNumber (r .answer)) (r .table)
 
 abbrev pub settled : State → Settled → Act
-settled s r = needing s (settleNumber (r .answer)) (r .table)
+settled s r = needing s (verdictNumber (r .answer)) (r .table)
 
--- "`w` with n ranks"
+-- R12.5, R12.6: `w` has a rank for each seat of the table, or is 25
 unfoldable pub ranked : State → ℕ → List ℕ → Act
 ranked s count ns = cond (eqb count (s .table .«num_players»)) (settled s (settledOf (s .table) (take 16 ns))) (badLine s)
 
-abbrev pub openedBy : State → GameState → BuildAnswer → Act
-openedBy s t Built = standing 0 t
-openedBy s t (NotBuilt r) = kept (Number.numberOf r) s
-
+-- R12.8: a new table where the build stands, else what stood
 abbrev pub opened : State → BuildStep → Act
-opened s r = openedBy s (r .table) (r .answer)
+opened s r = record { number = verdictNumber (r .answer); state = answer (onTable (r .table)) (λ q. s) (r .answer) }
 
--- what a line asks, done
+-- R12.5: what a line asks, done
 abbrev pub done : State → Words → Line → Act
 done s w Table = opened s (openingOf (w .count) (w .numbers))
 done s w Advance = stepped s (advanceOf (s .table))

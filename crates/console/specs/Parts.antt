@@ -1,5 +1,5 @@
--- Document 01, "Script program", in parts: what a script prints from a place on into a buffer of so many places. A line is played
--- only while 72 places, which hold any line, are left. Definitions only.
+-- R12.12: what a script prints from a place on into a buffer of so many places. A line is played only while 72 places, which hold
+-- any line, are left. Definitions only.
 use Prim.Native.Nat.{ℕ, _+_, _-_}
 use mathlib.Core.Bool.{cond, _||_}
 use mathlib.Core.List.{List, [], _∷_, _++_}

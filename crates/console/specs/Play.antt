@@ -1,5 +1,4 @@
--- Document 01, "Script program": "Output per line: line number, 0 or the refusal, round .."; "Too long a script prints only
--- `0 26 - - - -`." All that a script prints. Definitions only.
+-- R12.1, R12.8, R12.9: a line played, and all that a script prints. Definitions only.
 use Prim.Native.Nat.{ℕ, _+_, _-_, _^_}
 use mathlib.Core.Bool.{false, cond}
 use mathlib.Core.List.{List, [], _∷_, _++_}
@@ -20,18 +19,18 @@ use Rattle.console.specs.declared.play.Turn.{Turn}
 use Rattle.console.specs.Act.{actOf}
 use Rattle.console.specs.Shown.{viewOf}
 
--- line 1, no table
+-- R12.1: line 1, no table
 unfoldable pub atStart : Console
 atStart = record { «line_no» = 1; state = record { stands = false; table = noTable } }
 
--- lines are counted as far as the number goes
+-- R12.9: lines are counted as far as the number goes
 abbrev pub countUp : ℕ → ℕ
 countUp n = cond (ltb n (2 ^ 64 - 1)) (n + 1) n
 
 abbrev pub actOn : Console → Words → Act
 actOn c w = actOf w (c .state)
 
--- what is printed for a line: its number, 0 or the refusal, and what stands after it
+-- R12.9: what is printed for a line: its number, 0 or the refusal, and what stands after it
 unfoldable pub said : Console → Words → List ℕ
 said c w = lineText (c .«line_no») (actOn c w .number) (viewOf (actOn c w .state))
 
@@ -41,7 +40,7 @@ after c w = record { «line_no» = countUp (c .«line_no»); state = actOn c w .
 abbrev pub turnOf : Console → Words → Turn
 turnOf c w = record { text = textOf (said c w); console = after c w }
 
--- what is printed for some lines
+-- R12.1: what is printed for some lines
 unfoldable pub playLines : Console → List (List ℕ) → List ℕ
 playLines c [] = []
 playLines c (l ∷ ls) = said c (wordsOf l) ++ playLines (after c (wordsOf l)) ls
@@ -49,6 +48,6 @@ playLines c (l ∷ ls) = said c (wordsOf l) ++ playLines (after c (wordsOf l)) l
 abbrev pub tooLongLine : List ℕ
 tooLongLine = lineText 0 (addedNumber ScriptTooLong) NoTable
 
--- "script above 65,536 bytes"
+-- R12.1: a script of more than 65,536 bytes prints the one line, and is not played
 unfoldable pub playScript : List ℕ → List ℕ
 playScript s = cond (leb (length s) 65536) (playLines atStart (lines s)) tooLongLine

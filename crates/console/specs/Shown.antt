@@ -1,5 +1,4 @@
--- Document 01, "Script program": "round 0 to 11, seat to act, pot, bet; `-` for the last four while no table stands, `?` for a pot or
--- bet not whole in 0..2^24". Definitions only.
+-- R12.9, R12.10: what is shown of the table that stands, or that none does. Definitions only.
 use Prim.Native.Nat.{ℕ, _^_}
 use mathlib.Core.Bool.{cond, _&&_}
 use lib.Dec.{leb}
@@ -17,10 +16,11 @@ use Rattle.console.specs.declared.act.State.{State}
 abbrev pub wholePart : Float → ℕ
 wholePart x = toUnsigned 64 x
 
--- an amount that equals its whole part, which is at most 2 ^ 24; -0.0 is 0
+-- R12.10: an amount that equals its whole part, which is at most 2 ^ 24; -0.0 is 0
 unfoldable pub amountOf : Float → Amount
 amountOf x = cond (leb (wholePart x) (2 ^ 24) && eq (ofInt binary32 (pos (wholePart x))) x) (Whole (wholePart x)) NotWhole
 
+-- R12.9: the round, the seat to act, the pot and B
 abbrev pub tableView : GameState → View
 tableView t = Table (roundNumber (t .round)) (t .«round_data» .«to_act_idx») (amountOf (t .«total_pot»)) (amountOf (t .«round_data» .bet))
 

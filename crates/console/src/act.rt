@@ -1,19 +1,13 @@
 // What a line does to what stands. How the line came, read from a script or otherwise, is no matter here.
 ghost use mathlib.Core.Path.{_≡_};
-ghost use Rattle.rounds.specs.Steps.{numberOf};
-ghost use Rattle.table.specs.Answers.{betNumber};
-ghost use Rattle.settlement.specs.Settlement.{settleNumber};
 ghost use Rattle.console.specs.Act.{badLine, needing, stepped, wagered, ranked, opened, actOf};
 use crate::opening;
-use builder::BuildAnswer;
 use builder::BuildStep;
 use refusals::AddedError;
-use rounds::StepAnswer;
+use refusals::Verdict;
 use script::line;
 use script::line::Line;
 use script::line::Words;
-use settlement::SettleAnswer;
-use table::BetAnswer;
 use table::BetStep;
 use table::GameState;
 use table::TableStep;
@@ -28,33 +22,6 @@ pub struct State {
 pub struct Act {
     pub number: u8,
     pub state: State,
-}
-
-fn step_number(a: StepAnswer) -> u8
-    ensures { λ r. ⌜ r ≡ numberOf a ⌝ }
-{
-    match a {
-        StepAnswer::Done(_) => 0,
-        StepAnswer::Refused(r) => r.number(),
-    }
-}
-
-fn bet_number(a: BetAnswer) -> u8
-    ensures { λ r. ⌜ r ≡ betNumber a ⌝ }
-{
-    match a {
-        BetAnswer::Paid(_, _) => 0,
-        BetAnswer::NotPaid(r) => r.number(),
-    }
-}
-
-fn settle_number(a: SettleAnswer) -> u8
-    ensures { λ r. ⌜ r ≡ settleNumber a ⌝ }
-{
-    match a {
-        SettleAnswer::Paid => 0,
-        SettleAnswer::NotPaid(r) => r.number(),
-    }
 }
 
 // A bad line leaves what stands.
@@ -88,7 +55,7 @@ fn stepped(s: State, step: TableStep) -> Act
 {
     let answer = step.answer;
     let table = step.table;
-    needing(s, step_number(answer), table)
+    needing(s, answer.number(), table)
 }
 
 fn wagered(s: State, step: BetStep) -> Act
@@ -96,7 +63,7 @@ fn wagered(s: State, step: BetStep) -> Act
 {
     let answer = step.answer;
     let table = step.table;
-    needing(s, bet_number(answer), table)
+    needing(s, answer.number(), table)
 }
 
 // A settlement has a rank for each seat.
@@ -108,7 +75,7 @@ fn ranked(s: State, count: usize, numbers: [u16; 20]) -> Act
         let settled = settlement::settle(t, opening::ranks_of(numbers));
         let answer = settled.answer;
         let table = settled.table;
-        return needing(s, settle_number(answer), table);
+        return needing(s, answer.number(), table);
     }
     bad_line(s)
 }
@@ -120,14 +87,14 @@ fn opened(s: State, step: BuildStep) -> Act
     let answer = step.answer;
     let table = step.table;
     match answer {
-        BuildAnswer::Built => Act {
+        Verdict::Stands => Act {
             number: 0,
             state: State {
                 stands: true,
                 table,
             },
         },
-        BuildAnswer::NotBuilt(r) => Act {
+        Verdict::Refused(r) => Act {
             number: r.number(),
             state: s,
         },

@@ -2,11 +2,11 @@
 ghost use mathlib.Core.Path.{_≡_};
 ghost use lib.ListN.{take};
 ghost use Rattle.console.specs.Opening.{amountsFrom, openingOf};
-use builder::BuildAnswer;
 use builder::BuildStep;
 use builder::GameStateBuilder;
 use refusals::GameStateBuilderError;
 use refusals::Refusal;
+use refusals::Verdict;
 use table::GameState;
 
 // The sixteen numbers after the first four, as amounts.
@@ -14,11 +14,9 @@ fn amounts_from(numbers: [u16; 20]) -> [f32; 16]
     ensures { λ r. ⌜ r ≡ amountsFrom numbers ⌝ }
 {
     let mut list = [0.0f32; 16];
-    let mut i: usize = 0;
-    while i < 16 {
+    for i in 0..16 {
         let x = numbers[4 + i];
         list[i] = x as f32;
-        i += 1;
     }
     list
 }
@@ -28,11 +26,7 @@ pub fn ranks_of(numbers: [u16; 20]) -> [u16; 16]
     ensures { λ r. ⌜ r ≡ take 16 numbers ⌝ }
 {
     let mut list = [0u16; 16];
-    let mut i: usize = 0;
-    while i < 16 {
-        list[i] = numbers[i];
-        i += 1;
-    }
+    commons::copying::copy_u16(&mut list, 0, &numbers, 0, 16);
     list
 }
 
@@ -52,7 +46,7 @@ pub fn open_table(count: usize, numbers: [u16; 20]) -> BuildStep
             .build();
     }
     BuildStep {
-        answer: BuildAnswer::NotBuilt(Refusal::Build(GameStateBuilderError::InvalidPlayerCount)),
+        answer: Verdict::Refused(Refusal::Build(GameStateBuilderError::InvalidPlayerCount)),
         table: GameState::none(),
     }
 }

@@ -1,8 +1,7 @@
 // A script played part by part: as many lines as a lent buffer is sure to hold.
 ghost use mathlib.Core.Path.{_≡_};
-ghost use Prim.Native.Nat.{_+_, _≤_};
+ghost use Prim.Native.Nat.{_≤_};
 ghost use lib.ListN.{length};
-ghost use lib.Seq.{paste};
 ghost use Rattle.console.specs.Play.{atStart, countUp, turnOf, said};
 ghost use Rattle.console.specs.Parts.{partFrom, refusedPart, scriptPart, playedOf, over};
 use crate::act;
@@ -72,19 +71,6 @@ pub fn play_line(w: Words, c: Console) -> Turn
     }
 }
 
-// The first n of some bytes, from a place of others on.
-fn lay(out: &mut [u8], at: usize, bytes: [u8; 72], n: usize)
-    requires { ⌜ at + n ≤ length (now out) ⌝ }
-    requires { ⌜ n ≤ 72 ⌝ }
-    ensures { λ _. ⌜ now (out .exit) ≡ paste (now (out .entry)) at bytes n ⌝ }
-{
-    let mut i: usize = 0;
-    while i < n {
-        out[at + i] = bytes[i];
-        i += 1;
-    }
-}
-
 // Lines from a place on, while the buffer has 72 places left.
 fn play_some(script: &[u8], from: usize, console: Console, out: &mut [u8]) -> Played
     ensures { λ r. ⌜ r ≡ playedOf (partFrom (now (script .entry)) from console (length (now (out .entry)))) ⌝ }
@@ -105,7 +91,7 @@ fn play_some(script: &[u8], from: usize, console: Console, out: &mut [u8]) -> Pl
         let turn = play_line(words, c);
         let text = turn.text;
         let bytes = text.bytes;
-        lay(out, n, bytes, text.len);
+        commons::copying::copy_u8(out, n, &bytes, 0, text.len);
         n += text.len;
         at = read.next;
         let next = turn.console;
@@ -132,7 +118,7 @@ fn refuse(n: usize, at: usize, console: Console, out: &mut [u8]) -> Played
     }
     let text = print::print(0, AddedError::ScriptTooLong.number(), View::NoTable);
     let bytes = text.bytes;
-    lay(out, 0, bytes, text.len);
+    commons::copying::copy_u8(out, 0, &bytes, 0, text.len);
     Played {
         at: n,
         console,

@@ -6,7 +6,7 @@ use mathlib.Core.Bool.{Bool, true, false, not}
 use mathlib.Core.List.{List, [], _∷_}
 use lib.Dec.{eqb}
 use lib.Ieee.{Float, nan, binary32, ofBits, ofFields, toBits, lt, le, mul, round, units, odd, size, span, climb, isNan}
-use Rattle.refusals.specs.Tests.{allOf}
+use Rattle.commons.specs.Tests.{allOf}
 use Rattle.floats.specs.Helpers.{maxOf, minOf, signOf, absOf, tolOf, nearZero}
 
 -- the float of these bits, and whether a float has them

@@ -1,6 +1,6 @@
 -- Any pair of results that the `ensures` of a public function allows is equal, each by the one law `same`. The checker writes `ended`, the function's
 -- signature, and `Learnt`, what a caller learns from its `ensures`. `.ci/functions --check` asks a line for each public function. Assumes nothing.
-use Rattle.refusals.proofs.OneResult.{OneResult, same, only}
+use Rattle.commons.proofs.OneResult.{OneResult, same, only}
 use Rattle.floats.proofs as crate
 
 pub infinity : OneResult crate.infinity.ended crate.infinity.Reads.Learnt

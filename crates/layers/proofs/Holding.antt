@@ -7,12 +7,11 @@ use mathlib.Core.Bool.{Bool, true, false, cond}
 use mathlib.Core.Logic.{⊎-elim}
 use lib.Dec.{leb, eqb}
 use borrow.Author.Tests.{lt-leb, eq-eqb, ne-eqb}
-use Rattle.seats.proofs.First.{lt-or-le}
-use Rattle.chips.specs.Sums.{sumTo}
-use Rattle.chips.proofs.Sums.{sum-same, sum-mono, sum-part}
+use Rattle.commons.proofs.Order.{lt-or-le}
+use Rattle.commons.specs.Folds.{sumTo}
+use Rattle.commons.proofs.Folds.{sum-same, sum-mono, sum-part, sum-zero}
 use Rattle.layers.specs.declared.Hand.{Hand}
 use Rattle.layers.specs.Settlement.{bet, top, levelBelow, isLayer, potOf, putIn, holds}
-use Rattle.layers.proofs.Folds.{sum-zero}
 use Rattle.layers.proofs.Levels.{below-le, top-layer, below-here, below-same}
 
 -- what the layers up to the one under u hold: all of it at the top

@@ -10,14 +10,12 @@ use lib.Bits.{bitOr}
 use lib.Dec.{ltb, eqb}
 use borrow.Author.Tests.{lt-ltb, eq-eqb, ltb-true, eqb-true}
 use Rattle.seats.specs.Bits.{has}
-use Rattle.seats.proofs.First.{differ, lt-or-le}
-use Rattle.chips.proofs.Compare.{and-both}
-use Rattle.chips.proofs.Sums.{sum-part}
+use Rattle.commons.proofs.Bools.{differ, and-both, or-cases}
+use Rattle.commons.proofs.Order.{lt-or-le}
+use Rattle.commons.proofs.Folds.{sum-part, most-le, most-at, any-some, any-at}
 use Rattle.layers.specs.declared.Hand.{Hand}
-use Rattle.layers.specs.Folds.{anyTo}
+use Rattle.commons.specs.Folds.{anyTo}
 use Rattle.layers.specs.Settlement.{bet, contends, isLevel, top, levelBelow, isLayer, potOf}
-use Rattle.layers.proofs.Bools.{or-cases}
-use Rattle.layers.proofs.Folds.{most-le, most-at, any-some, any-at}
 
 -- a contender's hand bet is u
 pub record Bet (h : Hand) (u : ℕ) : Type 0 where

@@ -1,5 +1,3 @@
-pub mod Bools
-pub mod Folds
 pub mod Holding
 pub mod Levels
 pub mod Payable

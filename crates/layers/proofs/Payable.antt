@@ -3,12 +3,10 @@
 use Prim.Native.Nat.{_≤_, _<_}
 use mathlib.Core.Path.{_≡_}
 use mathlib.Core.Bool.{true}
-use lib.Dec.{leb→le, ltb→lt}
-use lib.Ieee.Bits.{is-true}
-use borrow.Author.Tests.{lt-ltb, le-leb}
-use Rattle.refusals.proofs.Tests.{each}
+use borrow.Author.Tests.{lt-ltb, le-leb, leb-true, ltb-true}
+use Rattle.commons.proofs.Tests.{test-at}
 use Rattle.layers.specs.declared.Hand.{Hand}
-use Rattle.layers.specs.Folds.{anyTo}
+use Rattle.commons.specs.Folds.{anyTo}
 use Rattle.layers.specs.Settlement.{contends, potOf, payableTests, isPayable}
 
 pub record Payable (h : Hand) : Type 0 where
@@ -21,13 +19,8 @@ module _ (h : Hand) where
   pub payable : isPayable h ≡ true → Payable h
   unfolding isPayable
   payable y =
-      let e = each (payableTests h) y in
-      record {
-        few = leb→le (h .n) 16 (e .0);
-        seated = ltb→lt (h .first) (h .n) (e .1 .0);
-        limit = leb→le (potOf h) 8000 (e .1 .1 .0);
-        someone = is-true (anyTo (h .n) (contends h)) (e .1 .1 .1);
-      }
+      let at = test-at (payableTests h) y in
+      record { few = leb-true (h .n) 16 (at 0); seated = ltb-true (h .first) (h .n) (at 1); limit = leb-true (potOf h) 8000 (at 2); someone = at 3 }
 
   -- where the numbers are in order, it is whether anybody contends
   pub payable-is : h .n ≤ 16 → h .first < h .n → potOf h ≤ 8000 → isPayable h ≡ anyTo (h .n) (contends h)

@@ -10,14 +10,14 @@ use mathlib.Core.List.{List}
 use lib.ListN.{getD, length, getD-replicate}
 use lib.Seq.{ext-getD}
 use Rattle.seats.specs.Bits.{countTo}
-use Rattle.seats.proofs.First.{either}
-use Rattle.amounts.specs.Filled.{filled}
-use Rattle.amounts.proofs.Filled.{filled-at, filled-long}
-use Rattle.chips.specs.Sums.{sumTo}
+use Rattle.commons.proofs.Bools.{either}
+use Rattle.commons.specs.Filled.{filled}
+use Rattle.commons.proofs.Filled.{filled-at, filled-long}
+use Rattle.commons.specs.Folds.{sumTo}
 use Rattle.layers.specs.declared.Hand.{Hand}
 use Rattle.layers.specs.Sharing.{shareOf}
 use Rattle.layers.specs.Settlement.{top, levelBelow, isLayer, potOf, putIn, holds, winners, share, award, nothing, isPayable, awardsOf}
-use Rattle.layers.proofs.Folds.{sum-stays}
+use Rattle.commons.proofs.Folds.{sum-stays}
 use Rattle.layers.proofs.Holding.{heldTo, put-all, put-enough, holds-le, at-top, under-top}
 use Rattle.layers.proofs.Levels.{top-is, top-layer, below-at, below-layer, layer-under}
 use Rattle.layers.proofs.Payable.{payable}

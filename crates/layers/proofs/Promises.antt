@@ -8,17 +8,17 @@ use mathlib.Core.Logic.{⊎-elim}
 use mathlib.Core.Bool.{Bool, true, false}
 use mathlib.Core.List.{List}
 use lib.ListN.{length, getD-replicate, List·getD-eq-default}
-use Rattle.refusals.proofs.OneResult.{OneResult, same, only}
+use Rattle.commons.proofs.OneResult.{OneResult, same, only}
 use Rattle.seats.specs.Bits.{has}
-use Rattle.seats.proofs.First.{either, lt-or-le}
-use Rattle.amounts.proofs.Filled.{filled-at, filled-long}
-use Rattle.chips.specs.Sums.{sumTo}
-use Rattle.chips.proofs.Sums.{sum-same}
+use Rattle.commons.proofs.Bools.{either, surely, never}
+use Rattle.commons.proofs.Order.{lt-or-le}
+use Rattle.commons.proofs.Filled.{filled-at, filled-long}
+use Rattle.commons.specs.Folds.{sumTo}
+use Rattle.commons.proofs.Folds.{sum-same}
 use Rattle.layers.specs.declared.Hand.{Hand}
 use Rattle.layers.specs.Sharing.{ahead}
 use Rattle.layers.specs.Settlement.{rank, contends, potOf, holds, reached, wins, winners, share, award, isPayable, nothing, awardsOf, awarded}
 use Rattle.layers.proofs as crate
-use Rattle.layers.proofs.Bools.{surely, never}
 use Rattle.layers.proofs.Levels.{contends-in}
 use Rattle.layers.proofs.Payable.{payable}
 use Rattle.layers.proofs.Sharing.{share-near, share-order}

@@ -11,10 +11,9 @@ use lib.Dec.{ltb}
 use lib.Pow.{pow-mono, pow-pos}
 use borrow.Author.Tests.{lt-ltb, le-ltb, eq-eqb, ne-eqb}
 use Rattle.seats.specs.Bits.{has, upTo, countTo, withIf, seatsWhere}
-use Rattle.seats.proofs.First.{lt-or-le}
+use Rattle.commons.proofs.Order.{lt-or-le, last-or}
 use Rattle.seats.proofs.Laws.{none-above, has-with, with-below, ones-count}
-use Rattle.chips.proofs.Sums.{last-or}
-use Rattle.layers.proofs.Bools.{chosen-le}
+use Rattle.commons.proofs.Bools.{chosen-le}
 
 -- ---- counts
 pub count-suc : (k s : ℕ) → countTo (suc k) s ≡ countTo k s + cond (has s k) 1 0

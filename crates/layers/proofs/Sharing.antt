@@ -9,12 +9,11 @@ use mathlib.Core.Bool.{Bool, true, false, cond}
 use lib.Dec.{leb, ltb}
 use borrow.Author.Tests.{lt-ltb, le-ltb, le-leb, lt-leb}
 use Rattle.seats.specs.Bits.{has, countTo}
-use Rattle.seats.proofs.First.{lt-or-le}
-use Rattle.chips.specs.Sums.{sumTo}
-use Rattle.chips.proofs.Sums.{sum-same}
+use Rattle.commons.proofs.Order.{lt-or-le}
+use Rattle.commons.specs.Folds.{sumTo}
+use Rattle.commons.proofs.Folds.{sum-same, sum-add}
 use Rattle.layers.specs.Sharing.{ahead, shareOf}
-use Rattle.layers.proofs.Bools.{chosen-le}
-use Rattle.layers.proofs.Folds.{sum-add}
+use Rattle.commons.proofs.Bools.{chosen-le}
 use Rattle.layers.proofs.Seats.{count-suc, count-up, count-most}
 
 -- one more of the set, with y ahead of it, takes an odd chip while one of the r is left

@@ -5,13 +5,11 @@ use native.Mathlib.Omega.{arith}
 use mathlib.Core.Path.{_≡_, refl, _∙_}
 use mathlib.Core.Logic.{⊎-elim}
 use mathlib.Core.Bool.{Bool, true, false, cond}
-use Rattle.seats.proofs.First.{either, differ}
-use Rattle.chips.specs.Sums.{sumTo}
-use Rattle.chips.proofs.Sums.{sum-same, sum-part}
+use Rattle.commons.proofs.Bools.{either, differ, never}
+use Rattle.commons.specs.Folds.{sumTo}
+use Rattle.commons.proofs.Folds.{sum-same, sum-part, sum-zero, sum-swap}
 use Rattle.layers.specs.declared.Hand.{Hand}
 use Rattle.layers.specs.Settlement.{contends, top, isLayer, potOf, holds, wins, winners, share, award}
-use Rattle.layers.proofs.Bools.{never}
-use Rattle.layers.proofs.Folds.{sum-zero, sum-swap}
 use Rattle.layers.proofs.Holding.{chips, layers-add}
 use Rattle.layers.proofs.Levels.{contends-in}
 use Rattle.layers.proofs.Payable.{Payable}

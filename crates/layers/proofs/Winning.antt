@@ -9,11 +9,11 @@ use mathlib.Core.Bool.{Bool, true, false, _&&_, and-false}
 use lib.Dec.{leb, ltb, eqb}
 use borrow.Author.Tests.{lt-ltb, le-leb, eq-eqb, eqb-true}
 use Rattle.seats.specs.Bits.{has, countTo}
-use Rattle.chips.proofs.Compare.{and-both}
+use Rattle.commons.proofs.Bools.{and-both}
 use Rattle.layers.specs.declared.Hand.{Hand}
-use Rattle.layers.specs.Folds.{anyTo}
+use Rattle.commons.specs.Folds.{anyTo}
 use Rattle.layers.specs.Settlement.{bet, rank, contends, top, holds, reached, best, wins, winners, share}
-use Rattle.layers.proofs.Folds.{most-le, most-at, any-at}
+use Rattle.commons.proofs.Folds.{most-le, most-at, any-at}
 use Rattle.layers.proofs.Levels.{contends-in, top-at}
 use Rattle.layers.proofs.Seats.{count-some, where-has}
 use Rattle.layers.proofs.Sharing.{share-none}

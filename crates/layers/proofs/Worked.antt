@@ -4,10 +4,9 @@ use mathlib.Core.Path.{_≡_, refl}
 use mathlib.Core.List.{List, [], _∷_, _++_, map}
 use lib.ListN.{length, replicate}
 use Rattle.seats.specs.Bits.{has, with, countTo, seatsWhere}
-use Rattle.amounts.specs.Filled.{filled}
-use Rattle.chips.specs.Sums.{sumTo}
+use Rattle.commons.specs.Filled.{filled}
+use Rattle.commons.specs.Folds.{sumTo, mostTo, anyTo}
 use Rattle.layers.specs.declared.Hand.{Hand}
-use Rattle.layers.specs.Folds.{mostTo, anyTo}
 use Rattle.layers.specs.Sharing.{ahead, shareOf}
 use Rattle.layers.specs.Settlement.{contends, isLevel, top, levelBelow, isLayer, potOf, putIn, holds, reached, best, wins, share, award, isPayable, awardsOf}
 
@@ -23,9 +22,9 @@ case active allIn first bets ranks gives =
 
 table : List Case
 table =
-    -- "Hand bets 10, 30, 30, ranks 9, 5, 5: awards 30, 20, 20."
+    -- the best rank reached the lower level alone
     case 6 1 0 (10 ∷ 30 ∷ 30 ∷ []) (9 ∷ 5 ∷ 5 ∷ []) (30 ∷ 20 ∷ 20 ∷ [])
-    -- "Bets 5, 5, 5, seat 0 folded, equal ranks: 0, 8, 7."
+    -- an odd chip, and a seat that folded
     ∷ case 6 0 0 (5 ∷ 5 ∷ 5 ∷ []) (4 ∷ 4 ∷ 4 ∷ []) (0 ∷ 8 ∷ 7 ∷ [])
     -- the odd chip from another seat on
     ∷ case 6 0 1 (5 ∷ 5 ∷ 5 ∷ []) (4 ∷ 4 ∷ 4 ∷ []) (0 ∷ 8 ∷ 7 ∷ [])
@@ -34,7 +33,7 @@ table =
     ∷ case 14 0 0 (6 ∷ 5 ∷ 8 ∷ 8 ∷ []) (3 ∷ 3 ∷ 3 ∷ 3 ∷ []) (0 ∷ 7 ∷ 11 ∷ 9 ∷ [])
     -- a contender with no bet beside levels
     ∷ case 7 0 0 (0 ∷ 8 ∷ 8 ∷ []) (9 ∷ 1 ∷ 1 ∷ []) (0 ∷ 8 ∷ 8 ∷ [])
-    -- folded chips above the top level
+    -- a folded seat put in more than any level
     ∷ case 6 0 0 (9 ∷ 4 ∷ 4 ∷ []) (7 ∷ 1 ∷ 2 ∷ []) (0 ∷ 0 ∷ 17 ∷ [])
     -- no level
     ∷ case 6 0 0 (7 ∷ 0 ∷ 0 ∷ []) (9 ∷ 2 ∷ 2 ∷ []) (0 ∷ 4 ∷ 3 ∷ [])

@@ -1,5 +1,4 @@
--- Document 01, "Settlement": "equal ranks share, odd chips go one each to winners from seat 0 upward". Seat 0 is here the seat `first`.
--- Definitions only.
+-- R11.9: how a layer is shared. The seat from which odd chips are given out, seat 0, is here the seat `first`. Definitions only.
 use Prim.Native.Nat.{ℕ, _+_, _-_, _/_, _%_}
 use mathlib.Core.Bool.{cond}
 use lib.Dec.{leb, ltb}

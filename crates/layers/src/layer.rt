@@ -1,7 +1,7 @@
 // A hand looked at over its seats: who contends, the levels, what was put in, and who wins a layer.
 ghost use mathlib.Core.Path.{_≡_};
 ghost use Prim.Native.Nat.{_≤_};
-ghost use Rattle.layers.specs.Folds.{anyTo};
+ghost use Rattle.commons.specs.Folds.{anyTo};
 ghost use Rattle.layers.specs.Settlement.{contends, levelBelow, putIn, best};
 ghost use Rattle.layers.specs.Settlement as Settlement;
 use crate::Hand;

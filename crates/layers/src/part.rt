@@ -4,7 +4,7 @@ ghost use mathlib.Core.Bool.{cond};
 ghost use Prim.Native.Nat.{ℕ, _+_, _-_, _<_, _≤_};
 ghost use lib.Dec.{leb, ltb};
 ghost use lib.ListN.{getD};
-ghost use Rattle.amounts.specs.Filled.{filled};
+ghost use Rattle.commons.specs.Filled.{filled};
 ghost use Rattle.seats.specs.Bits.{countTo};
 ghost use Rattle.layers.specs.Sharing.{shareOf};
 use crate::pick::only;

@@ -5,9 +5,9 @@ use mathlib.Core.Logic.{_⊎_, inl, inr, ⊎-elim, _≢_}
 use mathlib.Core.Bool.{Bool, true, false}
 use lib.Dec.{eqb}
 use borrow.Author.Tests.{eqb-true, eqb-false}
-use Rattle.seats.proofs.First.{either, differ}
-use Rattle.chips.specs.Sums.{sumTo}
-use Rattle.chips.proofs.Sums.{sum-change}
+use Rattle.commons.proofs.Bools.{either, differ}
+use Rattle.commons.specs.Folds.{sumTo}
+use Rattle.commons.proofs.Folds.{sum-change}
 use Rattle.order.proofs.Sets.{Within}
 
 -- g is f with v at the place s

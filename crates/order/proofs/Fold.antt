@@ -4,7 +4,7 @@ use native.Mathlib.Nat.{mod-lt}
 use native.Mathlib.Omega.{arith}
 use mathlib.Core.Path.{_≡_, _∙_}
 use mathlib.Core.Bool.{true, false}
-use Rattle.chips.proofs.Sums.{sum-same}
+use Rattle.commons.proofs.Folds.{sum-same}
 use Rattle.order.proofs.Walk.{gap, gap-lands}
 use Rattle.order.proofs.View.{View}
 use Rattle.order.proofs.Turn.{Acted, calm}

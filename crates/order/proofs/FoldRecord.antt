@@ -1,25 +1,21 @@
 -- A fold of the record: it stays sound and of whole amounts, and what is seen of it shows the machine's fold. Assumes nothing.
 use mathlib.Core.Path.{refl}
 use Rattle.seats.specs.Bits.{without}
-use Rattle.seats.proofs.Laws.{without-below}
 use Rattle.table.specs.declared.GameState.{GameState}
 use Rattle.table.specs.Pay.{actor, foldedStep}
+use Rattle.table.proofs.LawsSound.{sound-of, fold-sound}
 use Rattle.table.proofs.Sound.{sound}
 use Rattle.order.specs.GoodOrder.{owing}
 use Rattle.order.proofs.Fold.{Folds}
 use Rattle.order.proofs.Shown.{without-put}
-use Rattle.order.proofs.Ends.{turn-next, turn-seated, still-sound}
+use Rattle.order.proofs.Ends.{turn-next}
 use Rattle.order.proofs.Record.{view, Whole}
 
 module _ (t : GameState) (w : Whole t) where
   pub fold-whole : Whole (foldedStep t .table)
   fold-whole =
-      let s = sound t (w .sound) in
-      let i = actor t in
       record {
-        sound =
-            still-sound _ _ _ _ _ _ _ _ _ _ (w .sound) _ _ _ _ (turn-seated t (w .sound) (without (owing t) i)) (without-below _ i _ (s .active)) (s .all-in)
-            (without-below _ i _ (s .owing));
+        sound = sound-of (foldedStep t .table) (fold-sound t (sound t (w .sound)));
         stacks = w .stacks;
         pot = w .pot;
         hands = w .hands;

@@ -4,9 +4,9 @@ use Prim.Native.Nat.{ℕ, _+_, _≤_, _<_}
 use native.Mathlib.Omega.{arith}
 use mathlib.Core.Path.{_≡_}
 use mathlib.Core.Bool.{true}
-use Rattle.chips.specs.Sums.{sumTo}
+use Rattle.commons.specs.Folds.{sumTo}
 use Rattle.chips.specs.Whole.{most}
-use Rattle.chips.proofs.Sums.{sum-part}
+use Rattle.commons.proofs.Folds.{sum-part}
 use Rattle.order.proofs.Sets.{Within}
 use Rattle.order.proofs.View.{View}
 

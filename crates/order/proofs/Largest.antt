@@ -8,11 +8,10 @@ use mathlib.Core.List.{List}
 use lib.ListN.{getD}
 use lib.Ieee.{Float, nan}
 use Rattle.amounts.specs.Amounts.{largestOf}
-use Rattle.seats.proofs.First.{lt-or-le}
+use Rattle.commons.proofs.Order.{lt-or-le, last-or}
 use Rattle.chips.specs.Whole.{chipsIn, allWhole}
 use Rattle.chips.proofs.Value.{Is}
 use Rattle.chips.proofs.Helpers.{zero-is, max-whole}
-use Rattle.chips.proofs.Sums.{last-or}
 use Rattle.chips.proofs.Whole.{chips-le, chips-are}
 use Rattle.chips.proofs.Lists.{amount-at}
 use Rattle.order.specs.GoodOrder.{chipsAt}

@@ -8,8 +8,8 @@ use mathlib.Core.Logic.{_⊎_, inl, inr, ⊎-elim}
 use mathlib.Core.Bool.{Bool, true, false, cond, not, _&&_, and-false}
 use lib.Dec.{ltb, eqb}
 use borrow.Author.Tests.{le-ltb, eq-eqb}
-use Rattle.seats.proofs.First.{differ, lt-or-le}
-use Rattle.chips.proofs.Compare.{and-both}
+use Rattle.commons.proofs.Bools.{differ, and-both}
+use Rattle.commons.proofs.Order.{lt-or-le}
 use Rattle.order.proofs.Sets.{Within}
 use Rattle.order.proofs.Walk.{gap, gap-lands}
 use Rattle.order.proofs.View.{View}

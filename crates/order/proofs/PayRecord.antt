@@ -1,38 +1,39 @@
 -- A payment by choice of X whole chips, no more than the stack, from a record in good order: every sum and difference of floats is exact, so the record stays sound and
 -- of whole amounts, and what is seen of it shows the machine's payment. Assumes nothing.
-use Prim.Native.Nat.{ℕ, _+_, _-_, _^_, _≤_, _<_, max}
+use Prim.Native.Nat.{ℕ, _+_, _-_, _≤_, max}
 use native.Mathlib.Omega.{arith}
 use mathlib.Core.Path.{_≡_, subst}
 use mathlib.Core.Bool.{Bool, false, cond, not, _&&_}
 use lib.ListN.{getD}
-use lib.Ieee.{Float, nan, binary32, add, lt}
+use lib.Ieee.{Float, nan, binary32, add}
 use Rattle.floats.specs.Helpers.{nearZero}
 use Rattle.seats.specs.Bits.{has}
-use Rattle.seats.proofs.Laws.{with-below, without-below}
-use Rattle.rounds.specs.Steps.{putIn, after, newBet, newMinRaise}
+use Rattle.rounds.specs.Paying.{newRoundBet, newBet, staked, leftOf, owedOf}
+use Rattle.rounds.specs.Steps.{putIn, stakeIn}
 use Rattle.bets.specs.declared.BetSize.the-variants.{Pays as Sized}
-use Rattle.bets.specs.Bet.{sizeFor}
+use Rattle.bets.specs.Bet.{betSize, sizeFor}
 use Rattle.chips.specs.Rule.{Amount, pays, ruleOf}
 use Rattle.chips.specs.Whole.{most, chipsIn}
 use Rattle.chips.proofs.Value.{Is}
 use Rattle.chips.proofs.Add.{add-whole}
-use Rattle.chips.proofs.Sums.{sum-part}
+use Rattle.commons.proofs.Folds.{sum-part}
 use Rattle.chips.proofs.Whole.{whole-is, is-whole, chips-are, chips-le}
 use Rattle.chips.proofs.Lists.{amount-at}
 use Rattle.chips.proofs.Amounts.{Means}
 use Rattle.chips.proofs.Bet.{Same, bet-is}
 use Rattle.chips.proofs.Paid.{Paid, paid-is, accepted}
 use Rattle.table.specs.declared.GameState.{GameState}
-use Rattle.table.specs.Pay.{actor, stackOf, leftOf, owingAfter, owedAfter, sizeOf, tablePaid}
-use Rattle.table.proofs.LawsBack.{pick}
+use Rattle.table.specs.Pay.{actor, stackOf, payerIn, tablePaid}
+use Rattle.table.proofs.LawsSound.{sound-of, paid-sound}
 use Rattle.table.proofs.Sound.{sound}
 use Rattle.order.specs.GoodOrder.{chipsAt, owing}
+use Rattle.order.specs.Step.{sizeOf}
 use Rattle.order.proofs.Change.{Put}
 use Rattle.order.proofs.Good.{Good, room, hand-in}
 use Rattle.order.proofs.Raise.{base}
 use Rattle.order.proofs.Pay.{Pays}
 use Rattle.order.proofs.Shown.{Chips, stored, still-whole, leaving-put, owing-put}
-use Rattle.order.proofs.Ends.{turn-next, turn-seated, still-sound}
+use Rattle.order.proofs.Ends.{turn-next}
 use Rattle.order.proofs.Record.{view, Whole}
 
 module _ (t : GameState) (w : Whole t) {total : ℕ} (g : Good (t .«num_players») total (view t)) where
@@ -69,12 +70,12 @@ module _ (t : GameState) (w : Whole t) {total : ℕ} (g : Good (t .«num_players
   is-stack = amount-at (t .stacks) n (w .stacks) i (g .seated)
 
   -- the size of a bet follows the rule on whole chips, and so does the payment of an accepted one
-  pub follows : (a : Float) (m : Amount) → Means a m → Same (sizeOf t a false) (ruleOf m P K B M)
-  unfolding sizeFor
+  pub follows : (a : Float) (m : Amount) → Means a m → Same (sizeOf t a) (ruleOf m P K B M)
+  unfolding sizeFor betSize
   follows = bet-is is-round is-stack (whole-is _ (w .bet)) (whole-is _ (w .least)) put-room (chips-le _)
 
-  pub pays-rule : (a : Float) (m : Amount) → Means a m → (x : Float) → sizeOf t a false ≡ Sized x → (X : ℕ) × (ruleOf m P K B M ≡ pays X) × Is x X
-  unfolding sizeFor
+  pub pays-rule : (a : Float) (m : Amount) → Means a m → (x : Float) → sizeOf t a ≡ Sized x → (X : ℕ) × (ruleOf m P K B M ≡ pays X) × Is x X
+  unfolding sizeFor betSize
   pays-rule = accepted is-round is-stack (whole-is _ (w .bet)) (whole-is _ (w .least)) put-room (chips-le _)
 
   module _ (x : Float) (X : ℕ) (hx : Is x X) (enough : X ≤ K) where
@@ -82,16 +83,16 @@ module _ (t : GameState) (w : Whole t) {total : ℕ} (g : Good (t .«num_players
     exact = paid-is is-round is-stack (whole-is _ (w .bet)) (whole-is _ (w .least)) put-room (chips-le _) hx enough
 
     -- what stands in the record after it
-    new-stack : Chips (leftOf t x) (K - X)
+    new-stack : Chips (leftOf (payerIn t) x) (K - X)
     new-stack = (exact .stack, omega (arith, put-room))
 
-    new-round : Chips (after (t .«round_data») x) (P + X)
+    new-round : Chips (newRoundBet (stakeIn (t .«round_data»)) x) (P + X)
     new-round = (exact .round, omega (arith, put-room))
 
-    new-bet : Chips (newBet (t .«round_data») x) (max B (P + X))
+    new-bet : Chips (newBet (stakeIn (t .«round_data»)) x) (max B (P + X))
     new-bet = (exact .bet, omega (arith, put-room, chips-le (t .«round_data» .bet)))
 
-    new-least : Chips (newMinRaise (t .«round_data») x) (max M (max B (P + X) - B))
+    new-least : Chips (staked (stakeIn (t .«round_data»)) x false .«min_raise») (max M (max B (P + X) - B))
     new-least = (exact .least, omega (arith, new-bet .1, chips-le (t .«round_data» .«min_raise»)))
 
     new-pot : Chips (add binary32 (t .«total_pot») x) (chipsIn (t .«total_pot») + X)
@@ -103,19 +104,10 @@ module _ (t : GameState) (w : Whole t) {total : ℕ} (g : Good (t .«num_players
         (add-whole (amount-at _ n (w .hands) i (g .seated)) hx (omega arith), fits)
 
     pub pay-whole : Whole (tablePaid t x false)
-    unfolding owingAfter
     pay-whole =
-        let s = sound t (w .sound) in
         let d = t .«round_data» in
-        let out = nearZero (leftOf t x) in
-        let rose = lt (d .bet) (newBet d x) in
-        let asked = without-below _ i n (pick (λ (o : ℕ). o < 2 ^ n) rose _ _ (s .active) (s .owing)) in
         record {
-          sound =
-              still-sound _ _ _ _ _ _ _ _ _ _ (w .sound) _ _ _ _ (turn-seated t (w .sound) (owedAfter t x false))
-              (pick (λ (o : ℕ). o < 2 ^ n) out _ _ (without-below _ i n (s .active)) (s .active))
-              (pick (λ (o : ℕ). o < 2 ^ n) out _ _ (with-below _ i n (s .all-in) (s .acts)) (s .all-in))
-              (pick (λ (o : ℕ). o < 2 ^ n) out _ _ (without-below _ i n asked) asked);
+          sound = sound-of (tablePaid t x false) (paid-sound t (sound t (w .sound)) x false);
           stacks = still-whole n (t .stacks) (w .stacks) i (g .seated) new-stack;
           pot = is-whole _ _ (new-pot .0) (new-pot .1);
           hands = still-whole n (t .«player_bet») (w .hands) i (g .seated) new-hand;
@@ -138,6 +130,6 @@ module _ (t : GameState) (w : Whole t) {total : ℕ} (g : Good (t .«num_players
           bet = chips-are _ _ (new-bet .0) (new-bet .1);
           least = chips-are _ _ (new-least .0) (new-least .1);
           owes = subst (λ (rose : Bool). Put n (cond rose (has active) (has (owing t))) (u .owes) i false) (exact .rose) (owing-put n i active (owing t) _ _ (s .most) (s .place));
-          active = subst (λ (out : Bool). Put n (has active) (u .active) i (has active i && not out)) (exact .empty) (leaving-put n active i (nearZero (leftOf t x)) (s .most) (s .place));
-          next = turn-next t (w .sound) (owedAfter t x false);
+          active = subst (λ (out : Bool). Put n (has active) (u .active) i (has active i && not out)) (exact .empty) (leaving-put n active i (nearZero (leftOf (payerIn t) x)) (s .most) (s .place));
+          next = turn-next t (w .sound) (owedOf (payerIn t) x false);
         }

@@ -5,20 +5,19 @@ use native.Mathlib.Omega.{arith}
 use mathlib.Core.Path.{_≡_, refl}
 use mathlib.Core.Logic.{⊎-elim}
 use mathlib.Core.Bool.{Bool, true, false, _&&_, _||_, or-true}
-use lib.Dec.{leb→le, eqb→eq, eqb}
-use borrow.Author.Tests.{le-leb, leb-true, eq-eqb, ne-eqb, eqb-false}
-use Rattle.refusals.specs.Tests.{allOf}
-use Rattle.refusals.proofs.Tests.{each}
+use lib.Dec.{eqb}
+use borrow.Author.Tests.{le-leb, leb-true, eq-eqb, ne-eqb, eqb-true, eqb-false}
+use Rattle.commons.specs.Tests.{allOf}
+use Rattle.commons.proofs.Tests.{test-at}
 use Rattle.seats.specs.Bits.{has}
-use Rattle.seats.proofs.First.{either}
+use Rattle.commons.proofs.Bools.{either, if-true, true-if}
 use Rattle.chips.specs.Whole.{most, isWhole, chipsIn, allWhole, sumChips}
-use Rattle.chips.proofs.Sums.{all-at, all-hold}
+use Rattle.commons.proofs.Folds.{all-at, all-hold}
 use Rattle.table.specs.declared.GameState.{GameState}
 use Rattle.table.specs.Pay.{actor}
 use Rattle.table.specs.Sound.{soundOf}
 use Rattle.table.proofs.Sound.{sound}
 use Rattle.order.specs.GoodOrder.{chipsAt, chipsOf, owing, owingIn, covered, holding, playing, actorOwes, goodTests, testsWith, inGoodOrder, inOrder}
-use Rattle.order.proofs.Tests.{holds, if-true, true-if}
 use Rattle.order.proofs.Sets.{count-is, count-some, count-any}
 use Rattle.order.proofs.Largest.{largest-high, largest-met, largest-is}
 use Rattle.order.proofs.View.{View}
@@ -65,35 +64,24 @@ unfolding inOrder sumChips
 sorted t e =
     let n = t .«num_players» in
     let d = t .«round_data» in
-    let tests = each (testsWith t (eqb (owingIn t) 0 || actorOwes t)) e in
-    let amounts = tests .1 in
-    let sums = amounts .1 .1 .1 .1 .1 .1 in
-    let seats = sums .1 .1 .1 .1 .1 .1 in
-    let fit : soundOf t ≡ true = holds _ (tests .0) in
-    let rounds : allWhole (d .«player_bet») n ≡ true = holds _ (amounts .1 .1 .1 .0) in
+    let at = test-at (testsWith t (eqb (owingIn t) 0 || actorOwes t)) e in
+    let fit : soundOf t ≡ true = at 0 in
+    let rounds : allWhole (d .«player_bet») n ≡ true = at 4 in
     let two = sound t fit .two in
-    let top : chipsIn (d .bet) ≡ _ = eqb→eq _ _ (sums .1 .1 .1 .0) in
-    let last : (eqb (owingIn t) 0 || actorOwes t) ≡ true = holds _ (seats .1 .1) in (
-      record {
-        sound = fit;
-        stacks = holds _ (amounts .0);
-        pot = holds _ (amounts .1 .0);
-        hands = holds _ (amounts .1 .1 .0);
-        rounds = rounds;
-        bet = holds _ (amounts .1 .1 .1 .1 .0);
-        least = holds _ (amounts .1 .1 .1 .1 .1 .0);
-      },
+    let top : chipsIn (d .bet) ≡ _ = eqb-true _ _ (at 10) in
+    let last : (eqb (owingIn t) 0 || actorOwes t) ≡ true = at 15 in (
+      record { sound = fit; stacks = at 1; pot = at 2; hands = at 3; rounds = rounds; bet = at 5; least = at 6 },
       record {
         chips = refl;
-        few = leb→le _ _ (sums .0);
-        books = eqb→eq _ _ (sums .1 .0);
-        under = λ i h. leb-true _ _ (all-at n (covered (d .«player_bet») (t .«player_bet»)) (holds _ (sums .1 .1 .0)) i h);
+        few = leb-true _ _ (at 7);
+        books = eqb-true _ _ (at 8);
+        under = λ i h. leb-true _ _ (all-at n (covered (d .«player_bet») (t .«player_bet»)) (at 9) i h);
         high = λ i h. rw top (largest-high (d .«player_bet») n rounds (omega arith) i h);
         met = rw top (largest-met (d .«player_bet») n rounds (omega arith));
-        small = leb→le _ _ (sums .1 .1 .1 .1 .0);
-        large = leb→le _ _ (sums .1 .1 .1 .1 .1 .0);
-        held = λ i h a. leb-true _ _ (if-true _ _ (all-at n (holding (t .«player_active» .set) (t .stacks)) (holds _ (seats .0)) i h) a);
-        owed = λ i h a. if-true _ _ (all-at n (playing (owing t) (t .«player_active» .set)) (holds _ (seats .1 .0)) i h) a;
+        small = leb-true _ _ (at 11);
+        large = leb-true _ _ (at 12);
+        held = λ i h a. leb-true _ _ (if-true _ _ (all-at n (holding (t .«player_active» .set) (t .stacks)) (at 13) i h) a);
+        owed = λ i h a. if-true _ _ (all-at n (playing (owing t) (t .«player_active» .set)) (at 14) i h) a;
         seated = sound t fit .acts;
         turn = λ j h a. let f : eqb (owingIn t) 0 ≡ false = ne-eqb (owingIn t) 0 (λ (z : owingIn t ≡ 0). omega (arith, owed t j h a)) in rw f at last;
       },
@@ -141,6 +129,5 @@ module _ (t : GameState) (w : Whole t) (g : Good (t .«num_players») (chipsOf t
 pub as-read : (t : GameState) → inGoodOrder t ≡ true → inOrder t ≡ true
 unfolding inGoodOrder inOrder
 as-read t e =
-    let s = each (goodTests t) e in
-    let a : actorOwes t ≡ true = holds _ (s .1 .1 .1 .1 .1 .1 .1 .1 .1 .1 .1 .1 .1 .1 .1) in
+    let a : actorOwes t ≡ true = test-at (goodTests t) e 15 in
     rw (a, or-true (eqb (owingIn t) 0)) (rw a at e)

@@ -1,114 +1,138 @@
--- What the theorems ask can be met: a table of two in good order, at which seat 0 raises to 20, seat 1 folds, and seat 0 is awarded the pot. Closed by computing; and what
--- the theorems then say of it. Assumes nothing.
-use Prim.Native.Nat.{ℕ, _+_, _≤_}
-use native.Mathlib.Omega.{arith}
+-- Tables in good order and runs of them, with what is asked of them, closed by computing. So what the theorems ask can be met. Assumes nothing.
+use Prim.Native.Nat.{ℕ}
 use mathlib.Core.Path.{_≡_, refl}
-use mathlib.Core.Bool.{Bool, true, false}
-use mathlib.Core.List.{List, [], _∷_}
-use lib.Dec.{leb, ltb, eqb, leb→le, ltb→lt, eqb→eq}
+use mathlib.Core.Bool.{Bool, true, false, not}
+use mathlib.Core.List.{List, [], _∷_, _++_}
+use lib.Dec.{leb, ltb, eqb}
 use lib.IntN.{pos}
-use lib.ListN.{replicate}
+use lib.ListN.{replicate, getD}
 use lib.Ieee.{Float, binary32, ofInt, round, units, odd, size, span, climb, add, sub, sum, neg, mul, lt, le, eq, isNan}
-use Rattle.refusals.specs.Tests.{allOf}
-use Rattle.refusals.proofs.Tests.{Each, each}
+use Rattle.commons.specs.Tests.{allOf}
+use Rattle.commons.specs.First.{firstFrom}
+use Rattle.commons.specs.Folds.{sumTo, allTo}
+use Rattle.commons.proofs.Tests.{test-at}
 use Rattle.floats.specs.Helpers.{maxOf, minOf, absOf, signOf, tolOf, nearZero, zerof}
 use Rattle.amounts.specs.Amounts.{largestOf}
 use Rattle.seats.specs.Bits.{has, countTo, without}
-use Rattle.seats.specs.First.{firstFrom}
 use Rattle.seats.specs.Set.{ofBits}
-use Rattle.bets.specs.Bet.{sized, betSize, sizeFor}
-use Rattle.rounds.specs.declared.Round.the-variants.{Preflop, DealPreflop}
+use Rattle.rounds.specs.declared.Round.the-variants.{Preflop, DealPreflop, Flop, DealFlop}
+use Rattle.rounds.specs.Paying.{owingAfter}
 use Rattle.rounds.specs.Steps.{numberOf}
 use Rattle.rounds.specs.Walk.{distance, walkOf}
 use Rattle.rounds.specs.With.{dataOf}
-use Rattle.chips.specs.Sums.{sumTo, allTo}
-use Rattle.chips.specs.Whole.{isWhole, chipsIn, allWhole, sumChips}
+use Rattle.chips.specs.Whole.{most, isWhole, chipsIn, allWhole, sumChips}
 use Rattle.table.specs.declared.GameState.{GameState}
+use Rattle.table.specs.Added.{noAdded, goodAdded}
 use Rattle.table.specs.Answers.{betNumber}
-use Rattle.table.specs.Pay.{owingAfter, roomFor, judged, betOf, foldOf, awardOf}
-use Rattle.table.specs.Sound.{cardsOk, boardOk, soundParts}
+use Rattle.table.specs.Pay.{betOf, foldOf, awardOf}
+use Rattle.table.specs.Sound.{cardsOk, boardOk, soundFrame}
 use Rattle.table.specs.With.{tableOf}
-use Rattle.order.specs.GoodOrder.{inGoodOrder, owingIn, chipsOf, wonBy}
-use Rattle.order.specs.Run.{Run, stop, act, Comes}
-use Rattle.order.specs.Step.{folds, bets, isStake, Step, HasTurn, Award, Awarded, nothingWon, awardsIn}
-use Rattle.order.proofs.Tests.{holds}
-use Rattle.order.proofs.Demand.{turn-comes, run-bound, awards-keep-chips}
+use Rattle.order.specs.GoodOrder.{inGoodOrder, owing, owingIn, chipsOf}
+use Rattle.order.specs.Step.{bets, isStake, Award, Move, acts, wins, nothingWon, awardsIn}
 
-pub whole : ℕ → Float
+unfoldable pub whole : ℕ → Float
 whole k = ofInt binary32 (pos k)
 
--- 16 places, two of them used
-two : ℕ → ℕ → List Float
+-- 16 places, two or four of them used
+unfoldable pub two : ℕ → ℕ → List Float
 two a b = whole a ∷ whole b ∷ replicate 14 zerof
 
-abbrev pub pot : Award
-pot = record { seat = 0; amount = whole 30 }
+pub four : ℕ → List Float
+four a = replicate 4 (whole a) ++ replicate 12 zerof
 
-pub start : GameState
+-- ---- a table of two: seat 0 raises to 20, and seat 1 folds
+unfoldable pub start : GameState
 start =
-    tableOf 2 3 0 (whole 15) (two 95 90) (two 100 100) (two 5 10) (two 0 0) (whole 10) (whole 5) (whole 0) 0 Preflop DealPreflop
-    (dataOf (ofBits 3) (ofBits 3) (whole 10) (whole 10) (two 5 10) 2 2 0 2 0) (replicate 5 0) 0 true true true 3
+    tableOf 2 3 0 (whole 15) (two 3995 3990) (two 4000 4000) (two 5 10) (two 0 0) (whole 10) (whole 5) (whole 0) 0 Preflop DealPreflop
+    (dataOf (ofBits 3) (ofBits 3) (whole 10) (whole 10) (two 5 10) 2 2 0 2 0) (replicate 5 0) 0 true true true 3 noAdded
 
-pub raised : GameState
+unfoldable pub raised : GameState
 raised = betOf start (whole 20) false .table
 
-pub folded : GameState
+unfoldable pub folded : GameState
 folded = foldOf raised .table
 
-pub paid : GameState
-paid = awardOf folded 0 (whole 30) .table
-
-asked : List Bool
-asked =
+unfoldable pub by-actions : List Bool
+by-actions =
     inGoodOrder start
-    -- the raise
     ∷ ltb 0 (owingIn start)
     ∷ isStake (whole 20)
     ∷ eqb (betNumber (betOf start (whole 20) false .answer)) 0
-    -- the fold
     ∷ ltb 0 (owingIn raised)
     ∷ eqb (numberOf (foldOf raised .answer)) 0
-    -- the award
-    ∷ nothingWon start
-    ∷ isWhole (whole 30)
-    ∷ eqb (numberOf (awardOf folded 0 (whole 30) .answer)) 0
-    ∷ leb (awardsIn (pot ∷ [])) (chipsIn (folded .«total_pot»))
     ∷ []
 
+-- ---- or seat 1 is awarded 10, which brings stacks and pot above 8,000, and calls; then seat 0 is awarded 30
+unfoldable pub early : Award
+early = record { seat = 1; amount = whole 10 }
+
+unfoldable pub late : Award
+late = record { seat = 0; amount = whole 30 }
+
+unfoldable pub above : GameState
+above = awardOf raised 1 (whole 10) .table
+
+unfoldable pub called : GameState
+called = betOf above (whole 20) false .table
+
+unfoldable pub paid : GameState
+paid = awardOf called 0 (whole 30) .table
+
+abbrev pub mixed : List Move
+mixed = acts (bets (whole 20)) ∷ wins early ∷ acts (bets (whole 20)) ∷ wins late ∷ []
+
+unfoldable pub by-awards : List Bool
+by-awards =
+    nothingWon start
+    ∷ isWhole (whole 10)
+    ∷ eqb (numberOf (awardOf raised 1 (whole 10) .answer)) 0
+    ∷ ltb most (chipsOf above)
+    ∷ eqb (betNumber (betOf above (whole 20) false .answer)) 0
+    ∷ isWhole (whole 30)
+    ∷ eqb (numberOf (awardOf called 0 (whole 30) .answer)) 0
+    ∷ leb (awardsIn mixed) (chipsIn (paid .«total_pot»))
+    ∷ []
+
+-- ---- a table of four, where seats 0 and 3 owe, and both fold: a run shorter than seat 3 sits places on
+unfoldable pub wide : GameState
+wide =
+    tableOf 4 15 0 (whole 40) (four 90) (four 100) (four 10) (four 0) (whole 10) (whole 5) (whole 0) 0 Flop DealFlop
+    (dataOf (ofBits 15) (ofBits 9) (whole 10) (whole 10) (four 10) 4 0 0 0 0) (replicate 5 0) 0 true true true 3 noAdded
+
+unfoldable pub once : GameState
+once = foldOf wide .table
+
+unfoldable pub twice : GameState
+twice = foldOf once .table
+
+unfoldable pub by-folds : List Bool
+by-folds =
+    inGoodOrder wide
+    ∷ ltb 0 (owingIn wide)
+    ∷ eqb (numberOf (foldOf wide .answer)) 0
+    ∷ ltb 0 (owingIn once)
+    ∷ eqb (numberOf (foldOf once .answer)) 0
+    ∷ has (owing wide) 3
+    ∷ not (has (owing twice) 3)
+    ∷ []
+
+-- ---- all of it is met
+asked : List Bool
+asked = allOf by-actions ∷ allOf by-awards ∷ allOf by-folds ∷ []
+
 met : allOf asked ≡ true
-unfolding asked start raised folded whole two inGoodOrder isStake awardsIn betOf judged roomFor sizeFor betSize sized foldOf awardOf owingAfter soundParts boardOk cardsOk walkOf distance firstFrom has without countTo allWhole isWhole chipsIn sumChips sumTo allTo largestOf nearZero maxOf minOf absOf signOf tolOf ofInt round units odd size span climb add sub sum neg mul lt le eq isNan
+unfolding asked by-actions by-awards by-folds start raised folded early late above called paid wide once twice whole two four inGoodOrder isStake awardsIn betOf foldOf awardOf owingAfter soundFrame boardOk cardsOk goodAdded walkOf distance firstFrom has without countTo allWhole isWhole chipsIn sumChips sumTo allTo largestOf nearZero maxOf minOf absOf signOf tolOf ofInt round units odd size span climb add sub sum neg mul lt le eq isNan
 met = refl
 
-facts : Each asked
-facts = each asked met
-
-pub in-order : inGoodOrder start ≡ true
+-- each by its place in its list
+pub actions-met : (k : ℕ) → getD by-actions k true ≡ true
 unfolding asked
-in-order = holds _ (facts .0)
+actions-met = test-at by-actions (test-at asked met 0)
 
-pub two-actions : Run Step start (bets (whole 20) ∷ folds ∷ []) folded
-unfolding asked raised folded
-two-actions =
-    let raise = facts .1 in
-    let fold = raise .1 .1 .1 in
-    act {d = raised} {a = bets (whole 20)} (record { somebody = ltb→lt _ _ (raise .0); accepted = (holds _ (raise .1 .0), eqb→eq _ _ (raise .1 .1 .0), refl) })
-    (act {a = folds} (record { somebody = ltb→lt _ _ (fold .0); accepted = (eqb→eq _ _ (fold .1 .0), refl) }) stop)
-
-pub one-award : Run Awarded folded (pot ∷ []) paid
-unfolding asked paid
-one-award = let award = facts .1 .1 .1 .1 .1 .1 .1 in act {a = pot} (holds _ (award .0), eqb→eq _ _ (award .1 .0), refl) stop
-
--- ---- what the theorems say of it
--- q 2, n 2, T 200, b 10, m 10
-pub at-most : 2 ≤ 23
-unfolding start whole two countTo has sumChips sumTo chipsIn isWhole ofInt round units odd size span climb lt le eq
-at-most = run-bound in-order two-actions
-
--- seat 1 owes, and sits one place on
-pub comes : Comes Step (HasTurn 1) 1 start (bets (whole 20) ∷ folds ∷ []) folded
-unfolding start has
-comes = turn-comes 1 1 in-order (omega arith) refl refl two-actions (omega arith)
-
-pub stays : chipsOf paid ≡ chipsOf start + wonBy paid
+pub awards-met : (k : ℕ) → getD by-awards k true ≡ true
 unfolding asked
-stays = let award = facts .1 .1 .1 .1 .1 .1 in awards-keep-chips in-order (holds _ (award .0)) two-actions one-award (leb→le _ _ (award .1 .1 .1))
+awards-met = test-at by-awards (test-at asked met 1)
+
+pub folds-met : (k : ℕ) → getD by-folds k true ≡ true
+unfolding asked
+folds-met = test-at by-folds (test-at asked met 2)

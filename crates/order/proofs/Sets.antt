@@ -7,9 +7,9 @@ use mathlib.Core.Path.{_≡_, refl, ap}
 use mathlib.Core.Logic.{⊎-elim}
 use mathlib.Core.Bool.{Bool, true, false, cond}
 use Rattle.seats.specs.Bits.{has, countTo}
-use Rattle.seats.proofs.First.{either, differ}
-use Rattle.chips.specs.Sums.{sumTo}
-use Rattle.chips.proofs.Sums.{sum-mono, sum-less, sum-most}
+use Rattle.commons.proofs.Bools.{either, differ}
+use Rattle.commons.specs.Folds.{sumTo}
+use Rattle.commons.proofs.Folds.{sum-mono, sum-less, sum-most}
 
 abbrev pub oneIf : Bool → ℕ
 oneIf b = cond b 1 0

@@ -11,21 +11,26 @@ use lib.Seq.{getD-set-same, getD-set-other}
 use lib.Ieee.{Float, nan}
 use borrow.Author.Tests.{eq-eqb, ne-eqb}
 use Rattle.seats.specs.Bits.{has, without, withoutIf}
-use Rattle.seats.proofs.First.{differ, lt-or-le}
+use Rattle.commons.proofs.Bools.{differ}
+use Rattle.commons.proofs.Order.{lt-or-le}
 use Rattle.seats.proofs.Laws.{has-without}
 use Rattle.rounds.specs.Walk.{distance, walkOf}
 use Rattle.rounds.proofs.Walk.{walk-inside}
 use Rattle.chips.specs.Whole.{most, isWhole, chipsIn, allWhole}
 use Rattle.chips.proofs.Value.{Is}
-use Rattle.chips.proofs.Sums.{all-hold}
+use Rattle.commons.proofs.Folds.{all-hold}
 use Rattle.chips.proofs.Whole.{is-whole, chips-are}
 use Rattle.chips.proofs.Lists.{whole-at, too-long}
-use Rattle.table.specs.Pay.{owingAfter}
+use Rattle.rounds.specs.Paying.{owingAfter}
 use Rattle.order.specs.GoodOrder.{chipsAt}
-use Rattle.order.proofs.Change.{Put, which}
+use Rattle.order.proofs.Change.{Put, put-each}
 use Rattle.order.proofs.Walk.{gap}
 
 -- ---- amounts
+-- what is read of each place of a list, with x stored at s
+pub set-put : {A : Type 0} (f : Float → A) (n : ℕ) (l : List Float) (s : ℕ) (x : Float) → s < length l → Put n (λ i. f (getD l i nan)) (λ i. f (getD (set l s x) i nan)) s (f x)
+set-put f n l s x h = record { here = ap f (getD-set-same l s x nan h); there = λ i j e. ap f (getD-set-other l s i x nan e) }
+
 -- x is k chips, at most 8,000
 abbrev pub Chips : Float → ℕ → Type 0
 Chips x k = Is x k × (k ≤ most)
@@ -38,13 +43,11 @@ module _ (n : ℕ) (l : List Float) (w : allWhole l n ≡ true) (s : ℕ) (h : s
 
   module _ {x : Float} {k : ℕ} (v : Chips x k) where
     pub stored : Put n (chipsAt l) (chipsAt (set l s x)) s k
-    stored = record { here = ap chipsIn (getD-set-same l s x nan inside) ∙ chips-are x k (v .0) (v .1); there = λ i j e. ap chipsIn (getD-set-other l s i x nan e) }
+    stored = rw (← chips-are x k (v .0) (v .1)) (set-put chipsIn n l s x inside)
 
     pub still-whole : allWhole (set l s x) n ≡ true
     unfolding allWhole
-    still-whole =
-        all-hold n (λ i. isWhole (getD (set l s x) i nan))
-        (λ i j. ⊎-elim (λ (e : i ≡ s). rw (e, getD-set-same l s x nan inside) (is-whole x k (v .0) (v .1))) (λ e. rw (getD-set-other l s i x nan e) (whole-at l n w i j)) (which i s))
+    still-whole = all-hold n _ (put-each (λ i b. b ≡ true) (set-put isWhole n l s x inside) (is-whole x k (v .0) (v .1)) (λ i j e. whole-at l n w i j))
 
 -- ---- a seat that leaves a set
 pub without-put : (n s i : ℕ) → n ≤ 16 → i < 16 → Put n (has s) (has (without s i)) i false

@@ -8,8 +8,9 @@ use mathlib.Core.Logic.{⊎-elim, _≢_}
 use mathlib.Core.Bool.{true, false}
 use mathlib.Core.List.{List, [], _∷_}
 use lib.ListN.{length}
-use Rattle.seats.proofs.First.{differ, lt-or-le}
-use Rattle.order.specs.Run.{Run, stop, act, Comes, longest}
+use Rattle.commons.proofs.Bools.{differ}
+use Rattle.commons.proofs.Order.{lt-or-le}
+use Rattle.order.specs.Run.{Run, stop, act, Comes, ComesOr, comes, ends, longest}
 use Rattle.order.proofs.Sets.{count, Within, count-mono, count-drop, count-some, count-le, count-lt}
 use Rattle.order.proofs.Walk.{gap, gap-moves, gap-passes, elsewhere, further}
 use Rattle.order.proofs.View.{View}
@@ -122,11 +123,14 @@ module _ {St Act : Type 0} {n total : ℕ} (G : Game St Act n total) where
       more : (k m q w x y z : ℕ) → k + m ≤ q + w * (x + z) → x ≤ y → k ≤ q + w * (y + z)
       more k m q w x y z h g = let a : w * (x + z) ≤ w * (y + z) = mul-le-mul-left w (omega arith) in omega arith
 
-  -- ---- whose turn comes when: the seat j is to act, and owes
-  abbrev pub HasTurn : ℕ → St → Type 0
-  HasTurn j c = (view c .seat ≡ j) × (view c .owes j ≡ true)
+  -- ---- whose turn comes when: the seat j owes; it is to act, and owes
+  abbrev pub Owes : ℕ → St → Type 0
+  Owes j c = view c .owes j ≡ true
 
-  now : {c e : St} {l : List Act} (d j : ℕ) → Inv c → d ≡ 0 → j ≡ (view c .seat + d) % n → view c .owes j ≡ true → Run Step c l e → Comes Step (HasTurn j) d c l e
+  abbrev pub HasTurn : ℕ → St → Type 0
+  HasTurn j c = (view c .seat ≡ j) × Owes j c
+
+  now : {c e : St} {l : List Act} (d j : ℕ) → Inv c → d ≡ 0 → j ≡ (view c .seat + d) % n → Owes j c → Run Step c l e → Comes Step (HasTurn j) d c l e
   now {c} {e} {l} d j i z p o r = record {
     first = [];
     rest = l;
@@ -150,12 +154,16 @@ module _ {St Act : Type 0} {n total : ℕ} (G : Game St Act n total) where
     holds = m .holds;
   }
 
-  -- a seat that owes and sits d places on has the turn after at most d accepted actions
-  pub turn-comes : {c e : St} {l : List Act} (d j : ℕ) → Inv c → d < n → j ≡ (view c .seat + d) % n → view c .owes j ≡ true → Run Step c l e → d ≤ length l → Comes Step (HasTurn j) d c l e
-  turn-comes d j i h p o stop g = now d j i (omega arith) p o stop
-  turn-comes d j i h p o (act {c} {d = k} {e} {a} {l} s r) g =
-      ⊎-elim (λ z. now d j i z p o (act s r))
+  later-or : {b c e : St} {a : Act} {l : List Act} {P Q : St → Type 0} (k d : ℕ) → Step b a c → k < d → ComesOr Step P Q k c l e → ComesOr Step P Q d b (a ∷ l) e
+  later-or k d s h (comes m) = comes (later k d s h m)
+  later-or k d s h (ends g q) = ends (omega arith) q
+
+  -- a seat that owes and sits d places on has the turn after at most d accepted actions, or there are fewer and it still owes
+  pub turn-comes : {c e : St} {l : List Act} (d j : ℕ) → Inv c → d < n → j ≡ (view c .seat + d) % n → Owes j c → Run Step c l e → ComesOr Step (HasTurn j) (Owes j) d c l e
+  turn-comes d j i h p o stop = ⊎-elim (λ z. comes (now d j i z p o stop)) (λ z. ends z o) (eq-zero-or-pos d)
+  turn-comes d j i h p o (act {c} {d = k} {e} {a} {l} s r) =
+      ⊎-elim (λ z. comes (now d j i z p o (act s r)))
       (λ (z : 0 < d).
       let m = nearer n total (view c) (view k) (acts c a k i s) d j z h p o in
-      later (m .places) d s (m .fewer) (turn-comes (m .places) j (keeps c a k i s) (omega (arith, m .fewer)) (m .on) (m .owing) r (omega (arith, m .fewer))))
+      later-or (m .places) d s (m .fewer) (turn-comes (m .places) j (keeps c a k i s) (omega (arith, m .fewer)) (m .on) (m .owing) r))
       (eq-zero-or-pos d)

@@ -6,8 +6,10 @@ use native.Mathlib.Omega.{arith}
 use mathlib.Core.Path.{_≡_, sym, ap, _∙_}
 use mathlib.Core.Logic.{⊎-elim, _≢_}
 use mathlib.Core.Bool.{Bool, true, false}
-use Rattle.seats.specs.First.{firstFrom}
-use Rattle.seats.proofs.First.{first-cases, differ, lt-or-le}
+use Rattle.commons.specs.First.{firstFrom}
+use Rattle.commons.proofs.First.{first-cases}
+use Rattle.commons.proofs.Bools.{differ}
+use Rattle.commons.proofs.Order.{lt-or-le}
 
 -- how far it goes
 abbrev pub gap : ℕ → (ℕ → Bool) → ℕ → ℕ

@@ -8,7 +8,7 @@ pub struct Seats {
     pub playing: bool,
 }
 
-// Over the seats below n: no round bet above its hand bet, a chip at each active seat, each owing seat active.
+// Over the seats below n: a round bet is part of its hand bet, who is active has chips, who owes is active.
 pub fn tested(
     n: usize,
     round: [f32; 16],

@@ -3,7 +3,7 @@ use crate::reading;
 use crate::reading::NOWHERE;
 use crate::words;
 
-// What stands for an answer in a line that only loads a table.
+// What stands for an answer in a line that only loads something.
 pub const LOADED: u8 = 63;
 
 // Our answer, 0 or the number of a refusal, and the place up to which the line says the same.
@@ -77,13 +77,6 @@ pub fn told_flag(line: &[u8], at: usize, ours: bool) -> Told {
     }
 }
 
-pub fn told_float(line: &[u8], at: usize, ours: f32) -> Told {
-    Told {
-        answer: 0,
-        next: same_float(line, answered(line, at), ours),
-    }
-}
-
 pub fn told_bits(line: &[u8], at: usize, ours: f32) -> Told {
     Told {
         answer: 0,
@@ -96,4 +89,12 @@ pub fn refused(line: &[u8], at: usize, number: u8) -> Told {
         answer: number,
         next: same_number(line, same_mark(line, at, b'!'), number as usize),
     }
+}
+
+// An answer that is given, whose values the line says up to a place, or the number of a refusal.
+pub fn told_answer(line: &[u8], at: usize, number: u8, next: usize) -> Told {
+    if number == 0 {
+        return Told { answer: 0, next };
+    }
+    refused(line, at, number)
 }

@@ -7,9 +7,12 @@ use crate::reading;
 use crate::reading::NOWHERE;
 use crate::table_words;
 use crate::words;
-use builder::BuildAnswer;
+use crate::words::Words;
 use builder::BuildStep;
 use builder::GameStateBuilder;
+use layout::words::round_at;
+use layout::words::sixteen_at;
+use layout::words::word_of;
 use rounds::RoundData;
 
 // Whether a field is given, and the place after its letter or its dash.
@@ -18,15 +21,15 @@ struct Given {
     next: usize,
 }
 
-// A builder with the fields before a place.
-struct Making {
-    builder: GameStateBuilder,
+// Round data and the place after it.
+struct Data {
+    value: RoundData,
     next: usize,
 }
 
-// A number of one byte, as a counter and a card are.
-struct Small {
-    value: u8,
+// A builder with the fields before a place.
+struct Making {
+    builder: GameStateBuilder,
     next: usize,
 }
 
@@ -50,27 +53,12 @@ fn read_given(line: &[u8], at: usize, letter: u8) -> Given {
     }
 }
 
-fn read_small(line: &[u8], at: usize) -> Small {
-    let n = reading::read_number(line, at);
-    let value = n.value;
-    if value <= 255 {
-        return Small {
-            value: value as u8,
-            next: n.next,
-        };
-    }
-    Small {
-        value: 0,
-        next: NOWHERE,
-    }
-}
-
 // The first cards of a list of so many; the place after them.
 fn read_cards(line: &[u8], at: usize, count: usize, list: &mut [u8; 64]) -> usize {
     let mut next = at;
     for i in 0..64 {
         if i < count {
-            let c = read_small(line, next);
+            let c = inputs::read_small(line, next);
             list[i] = c.value;
             next = c.next;
         }
@@ -78,22 +66,35 @@ fn read_cards(line: &[u8], at: usize, count: usize, list: &mut [u8; 64]) -> usiz
     next
 }
 
-fn with_stacks(b: GameStateBuilder, list: [f32; 64], count: usize) -> GameStateBuilder {
-    if count < 64 {
-        return b.stacks(&list[0..count]);
+// The stacks and the hand's bets, each a list of amounts.
+fn with_list(b: GameStateBuilder, letter: u8, list: &[f32]) -> GameStateBuilder {
+    if letter == b'S' {
+        return b.stacks(list);
     }
-    b.stacks(&list)
+    b.player_bet(list)
 }
 
-fn make_stacks(line: &[u8], m: Making) -> Making {
-    let g = read_given(line, m.next, b'S');
+fn with_amounts(
+    b: GameStateBuilder,
+    letter: u8,
+    list: [f32; 64],
+    count: usize,
+) -> GameStateBuilder {
+    if count < 64 {
+        return with_list(b, letter, &list[0..count]);
+    }
+    with_list(b, letter, &list)
+}
+
+fn make_amounts(line: &[u8], m: Making, letter: u8) -> Making {
+    let g = read_given(line, m.next, letter);
     let b = m.builder;
     if g.is_given {
         let len = reading::read_number(line, g.next);
         let mut list: [f32; 64] = [0.0; 64];
         let next = inputs::read_amounts(line, len.next, len.value, &mut list);
         return Making {
-            builder: with_stacks(b, list, len.value),
+            builder: with_amounts(b, letter, list, len.value),
             next,
         };
     }
@@ -101,6 +102,25 @@ fn make_stacks(line: &[u8], m: Making) -> Making {
         builder: b,
         next: g.next,
     }
+}
+
+// So many seats with one stack each.
+fn make_same_stacks(line: &[u8], b: GameStateBuilder, at: usize) -> Making {
+    let n = reading::read_number(line, at);
+    let x = inputs::read_amount(line, n.next);
+    Making {
+        builder: b.num_players_with_stack(n.value, x.value),
+        next: x.next,
+    }
+}
+
+// The stacks stand in one of two forms.
+fn make_stacks(line: &[u8], m: Making) -> Making {
+    let same = reading::read_mark(line, m.next);
+    if same.byte == b'W' {
+        return make_same_stacks(line, m.builder, same.next);
+    }
+    make_amounts(line, m, b'S')
 }
 
 // The blinds and the ante, each one amount.
@@ -136,7 +156,7 @@ fn with_number(b: GameStateBuilder, letter: u8, n: usize) -> GameStateBuilder {
         return b.dealer_idx(n);
     }
     if letter == b'O' {
-        return b.round(table_words::round_of(words::word_of_number(n)));
+        return b.round(round_at(&[word_of(n)], 0));
     }
     b.hands(n)
 }
@@ -163,7 +183,7 @@ fn make_cap(line: &[u8], m: Making) -> Making {
     if g.is_given {
         let is_capped = inputs::read_flag(line, g.next);
         if is_capped.value {
-            let cap = read_small(line, is_capped.next);
+            let cap = inputs::read_small(line, is_capped.next);
             return Making {
                 builder: b.max_raises_per_round(true, cap.value),
                 next: cap.next,
@@ -205,68 +225,48 @@ fn make_board(line: &[u8], m: Making) -> Making {
     }
 }
 
-fn with_bets(b: GameStateBuilder, list: [f32; 64], count: usize) -> GameStateBuilder {
-    if count < 64 {
-        return b.player_bet(&list[0..count]);
-    }
-    b.player_bet(&list)
-}
-
-fn make_bets(line: &[u8], m: Making) -> Making {
-    let g = read_given(line, m.next, b'P');
-    let b = m.builder;
-    if g.is_given {
-        let len = reading::read_number(line, g.next);
-        let mut list: [f32; 64] = [0.0; 64];
-        let next = inputs::read_amounts(line, len.next, len.value, &mut list);
-        return Making {
-            builder: with_bets(b, list, len.value),
-            next,
-        };
-    }
-    Making {
-        builder: b,
-        next: g.next,
-    }
-}
-
 fn sixteen(list: [f32; 64]) -> [f32; 16] {
-    amounts::of_slice(&list)
+    sixteen_at(&list, 0)
+}
+
+fn read_data(line: &[u8], at: usize) -> Data {
+    let start = inputs::read_seats(line, at);
+    let needs = inputs::read_seats(line, start.next);
+    let min = inputs::read_amount(line, needs.next);
+    let bet = inputs::read_amount(line, min.next);
+    let total = inputs::read_small(line, bet.next);
+    let raise = inputs::read_small(line, total.next);
+    let forced = inputs::read_small(line, raise.next);
+    let to_act = reading::read_number(line, forced.next);
+    let len = reading::read_number(line, to_act.next);
+    let mut list: [f32; 64] = [0.0; 64];
+    let next = inputs::read_amounts(line, len.next, len.value, &mut list);
+    let player_bet = sixteen(list);
+    let starting_player_active = start.value;
+    let needs_action = needs.value;
+    let value = RoundData {
+        starting_player_active,
+        needs_action,
+        min_raise: min.value,
+        bet: bet.value,
+        player_bet,
+        player_bet_len: len.value,
+        total_bet_count: total.value,
+        total_raise_count: raise.value,
+        forced_bet_count: forced.value,
+        to_act_idx: to_act.value,
+    };
+    Data { value, next }
 }
 
 fn make_data(line: &[u8], m: Making) -> Making {
     let g = read_given(line, m.next, b'Q');
     let b = m.builder;
     if g.is_given {
-        let start = inputs::read_seats(line, g.next);
-        let needs = inputs::read_seats(line, start.next);
-        let min = inputs::read_amount(line, needs.next);
-        let bet = inputs::read_amount(line, min.next);
-        let total = read_small(line, bet.next);
-        let raise = read_small(line, total.next);
-        let forced = read_small(line, raise.next);
-        let to_act = reading::read_number(line, forced.next);
-        let len = reading::read_number(line, to_act.next);
-        let mut list: [f32; 64] = [0.0; 64];
-        let next = inputs::read_amounts(line, len.next, len.value, &mut list);
-        let player_bet = sixteen(list);
-        let starting_player_active = start.value;
-        let needs_action = needs.value;
-        let d = RoundData {
-            starting_player_active,
-            needs_action,
-            min_raise: min.value,
-            bet: bet.value,
-            player_bet,
-            player_bet_len: len.value,
-            total_bet_count: total.value,
-            total_raise_count: raise.value,
-            forced_bet_count: forced.value,
-            to_act_idx: to_act.value,
-        };
+        let d = read_data(line, g.next);
         return Making {
-            builder: b.round_data(d),
-            next,
+            builder: b.round_data(d.value),
+            next: d.next,
         };
     }
     Making {
@@ -289,32 +289,20 @@ fn read_builder(line: &[u8], at: usize) -> Making {
     let round = make_number(line, cap, b'O');
     let board = make_board(line, round);
     let hands = make_number(line, board, b'H');
-    let bets = make_bets(line, hands);
+    let bets = make_amounts(line, hands, b'P');
     make_data(line, bets)
 }
 
-fn told_build(line: &[u8], at: usize, answer: BuildAnswer) -> Told {
-    match answer {
-        BuildAnswer::Built => Told {
-            answer: 0,
-            next: agreeing::answered(line, at),
-        },
-        BuildAnswer::NotBuilt(why) => agreeing::refused(line, at, why.number()),
-    }
-}
-
-fn told_step(line: &[u8], at: usize, step: BuildStep, table: &mut [u32; 112]) -> Told {
-    *table = [0u32; 112];
-    let list = changes::follow(line, at, false, table);
-    let mut ours = [0u32; 112];
+fn told_step(line: &[u8], at: usize, step: BuildStep, table: &mut Words) -> Told {
+    *table = words::ZEROS;
     let t = step.table;
-    table_words::put(t, &mut ours);
     let answer = step.answer;
-    let told = told_build(line, at, answer);
-    changes::agree(told, list, &ours, table)
+    let ours = table_words::of_table(t);
+    let told = agreeing::told_answer(line, at, answer.number(), agreeing::answered(line, at));
+    changes::agree(line, at, 0, told, &ours, false, table)
 }
 
-pub fn ask(letter: u8, line: &[u8], at: usize, table: &mut [u32; 112]) -> Told {
+pub fn ask(letter: u8, line: &[u8], at: usize, table: &mut Words) -> Told {
     if letter == b'b' {
         let m = read_builder(line, at);
         let b = m.builder;

@@ -1,8 +1,14 @@
-// How often each letter was answered, refused by each number, or loaded a table: 64 letters by 64 answers.
+// How often each letter was answered, refused by each number, or loaded something: 128 letters by 64 answers.
 use crate::agreeing::LOADED;
 use crate::printing::print;
 use crate::printing::print_number;
 use crate::reading::wide;
+
+const CELLS: usize = 8192;
+
+pub type Counts = [u32; CELLS];
+
+pub const NO_COUNTS: Counts = [0; CELLS];
 
 // One more, up to the largest.
 pub fn up(n: u32) -> u32 {
@@ -12,15 +18,15 @@ pub fn up(n: u32) -> u32 {
     n
 }
 
-// The place of a letter and an answer. 'A' is 1, 'a' is 33.
+// The place of a letter and an answer.
 fn cell(letter: usize, answer: usize) -> usize {
-    letter % 64 * 64 + answer % 64
+    letter % 128 * 64 + answer % 64
 }
 
-pub fn count(line: &[u8], answer: u8, counts: &mut [u32; 4096]) {
+pub fn count(line: &[u8], answer: u8, counts: &mut Counts) {
     if 0 < line.len() {
         let i = cell(wide(line[0]), wide(answer));
-        if i < 4096 {
+        if i < CELLS {
             counts[i] = up(counts[i]);
         }
     }
@@ -31,7 +37,7 @@ fn print_before(letter: usize, is_begun: bool) {
     if is_begun {
         print(b", ");
     } else {
-        let byte = (64 + letter % 64) as u8;
+        let byte = (letter % 128) as u8;
         print(&[b' ', b' ', byte, b' ']);
     }
 }
@@ -50,8 +56,8 @@ fn print_answer(answer: usize) {
 }
 
 // Prints a count that is not 0, and answers whether its letter's line is begun.
-fn print_count(counts: &[u32; 4096], i: usize, is_begun: bool) -> bool {
-    if i < 4096 {
+fn print_count(counts: &Counts, i: usize, is_begun: bool) -> bool {
+    if i < CELLS {
         let n = counts[i];
         if 0 < n {
             print_before(i / 64, is_begun);
@@ -75,9 +81,9 @@ fn print_after(i: usize, is_begun: bool) -> bool {
 }
 
 // A line for each letter that occurs.
-pub fn print_counts(counts: &[u32; 4096]) {
+pub fn print_counts(counts: &Counts) {
     let mut is_begun = false;
-    for i in 0..4096 {
+    for i in 0..CELLS {
         is_begun = print_after(i, print_count(counts, i, is_begun));
     }
 }

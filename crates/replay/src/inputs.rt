@@ -10,9 +10,21 @@ pub struct Amount {
     pub next: usize,
 }
 
+// A number of two bytes, as a rank is.
+pub struct Half {
+    pub value: u16,
+    pub next: usize,
+}
+
 // A set of seats.
 pub struct Seats {
     pub value: PlayerBitSet,
+    pub next: usize,
+}
+
+// A number of one byte, as a counter and a card are.
+pub struct Small {
+    pub value: u8,
     pub next: usize,
 }
 
@@ -30,17 +42,40 @@ pub fn read_amount(line: &[u8], at: usize) -> Amount {
     }
 }
 
-pub fn read_seats(line: &[u8], at: usize) -> Seats {
+pub fn read_half(line: &[u8], at: usize) -> Half {
     let n = reading::read_number(line, at);
-    let set = n.value;
-    if set <= 0xffff {
-        return Seats {
-            value: PlayerBitSet { set: set as u16 },
+    let value = n.value;
+    if value <= 0xffff {
+        return Half {
+            value: value as u16,
             next: n.next,
         };
     }
+    Half {
+        value: 0,
+        next: NOWHERE,
+    }
+}
+
+pub fn read_seats(line: &[u8], at: usize) -> Seats {
+    let n = read_half(line, at);
     Seats {
-        value: PlayerBitSet { set: 0 },
+        value: PlayerBitSet { set: n.value },
+        next: n.next,
+    }
+}
+
+pub fn read_small(line: &[u8], at: usize) -> Small {
+    let n = reading::read_number(line, at);
+    let value = n.value;
+    if value <= 255 {
+        return Small {
+            value: value as u8,
+            next: n.next,
+        };
+    }
+    Small {
+        value: 0,
         next: NOWHERE,
     }
 }

@@ -1,13 +1,27 @@
-// The lists: the file of each, and who asks its lines.
+// The lists, and who asks the lines of each.
+use crate::agreeing;
 use crate::agreeing::Told;
 use crate::build_lines;
+use crate::counting;
+use crate::decoding;
+use crate::decoding::Script;
 use crate::float_lines;
-use crate::printing::print;
+use crate::judging;
+use crate::judging::Tally;
+use crate::lines;
+use crate::lines::Line;
+use crate::lines::Lines;
+use crate::playing;
+use crate::playing::Printed;
 use crate::reading;
 use crate::round_lines;
+use crate::script_lines;
+use crate::script_lines::Case;
 use crate::seat_lines;
 use crate::settle_lines;
 use crate::step_lines;
+use crate::words;
+use crate::words::Words;
 
 pub enum List {
     Seats,
@@ -16,32 +30,18 @@ pub enum List {
     Builds,
     Steps,
     Settlements,
+    Scripts,
 }
 
-pub fn open(list: List) -> i32 {
-    match list {
-        List::Seats => os::open_read(b"seats"),
-        List::Floats => os::open_read(b"floats"),
-        List::Rounds => os::open_read(b"rounds"),
-        List::Builds => os::open_read(b"builds"),
-        List::Steps => os::open_read(b"steps"),
-        List::Settlements => os::open_read(b"settlements"),
-    }
-}
-
-pub fn print_name(list: List) {
-    match list {
-        List::Seats => print(b"seats"),
-        List::Floats => print(b"floats"),
-        List::Rounds => print(b"rounds"),
-        List::Builds => print(b"builds"),
-        List::Steps => print(b"steps"),
-        List::Settlements => print(b"settlements"),
-    }
-}
-
-// A line is asked of our functions; the list's own table is the one after the line.
-pub fn ask(list: List, line: &[u8], table: &mut [u32; 112]) -> Told {
+// A line is asked of our functions. A list keeps its own table from line to line, or its case.
+fn ask(
+    list: List,
+    line: &[u8],
+    table: &mut Words,
+    script: &mut Script,
+    printed: &mut Printed,
+    case: &mut Case,
+) -> Told {
     let head = reading::read_mark(line, 0);
     match list {
         List::Seats => seat_lines::ask(head.byte, line, head.next),
@@ -50,5 +50,60 @@ pub fn ask(list: List, line: &[u8], table: &mut [u32; 112]) -> Told {
         List::Builds => build_lines::ask(head.byte, line, head.next, table),
         List::Steps => step_lines::ask(head.byte, line, head.next, table),
         List::Settlements => settle_lines::ask(head.byte, line, head.next, table),
+        List::Scripts => script_lines::ask(line, script, printed, case),
     }
+}
+
+// The line that was read, if one is whole.
+fn take(
+    list: List,
+    line: &Line,
+    l: Lines,
+    table: &mut Words,
+    script: &mut Script,
+    printed: &mut Printed,
+    case: &mut Case,
+) -> Told {
+    let len = l.len;
+    let all = &line[..];
+    if l.is_whole {
+        if len <= all.len() {
+            return ask(list, &all[0..len], table, script, printed, case);
+        }
+    }
+    agreeing::no_match()
+}
+
+pub fn replay(name: &[u8], list: List) {
+    let fd = os::open_read(name);
+    let mut piece = io::large_buffer();
+    let mut line = lines::NO_LINE;
+    let mut table = words::ZEROS;
+    let mut script = decoding::NO_SCRIPT;
+    let mut printed = playing::NO_BYTES;
+    let mut case = script_lines::NO_CASE;
+    let mut counts = counting::NO_COUNTS;
+    let mut l = Lines::new();
+    let mut s = Tally {
+        lines: 0,
+        different: 0,
+    };
+    for _ in 0..lines::TURNS {
+        l = lines::turn(fd, &mut piece, &mut line, l);
+        let told = take(
+            list,
+            &line,
+            l,
+            &mut table,
+            &mut script,
+            &mut printed,
+            &mut case,
+        );
+        s = judging::take(name, &line, l, told, &mut counts, s);
+        if l.is_ended {
+            break;
+        }
+    }
+    libc::close(fd);
+    judging::print_all(name, &counts, s);
 }

@@ -1,17 +1,20 @@
-// The oracle's lists, asked again of our functions: each answer, each refusal, and each word of the table after it.
+// The oracle's lists, asked again of our functions: each answer, each refusal, each word of the table after it, and each line that a script prints.
 mod agreeing;
 mod build_lines;
 mod changes;
 mod counting;
+mod decoding;
 mod float_lines;
 mod inputs;
+mod judging;
+mod lines;
 mod lists;
 mod loading;
-mod pieces;
+mod playing;
 mod printing;
 mod reading;
 mod round_lines;
-mod round_words;
+mod script_lines;
 mod seat_lines;
 mod settle_lines;
 mod step_lines;
@@ -21,10 +24,11 @@ mod words;
 use lists::List;
 
 fn main() {
-    pieces::replay(List::Seats);
-    pieces::replay(List::Floats);
-    pieces::replay(List::Rounds);
-    pieces::replay(List::Builds);
-    pieces::replay(List::Steps);
-    pieces::replay(List::Settlements);
+    lists::replay(b"seats", List::Seats);
+    lists::replay(b"floats", List::Floats);
+    lists::replay(b"rounds", List::Rounds);
+    lists::replay(b"builds", List::Builds);
+    lists::replay(b"steps", List::Steps);
+    lists::replay(b"settlements", List::Settlements);
+    lists::replay(b"scripts", List::Scripts);
 }

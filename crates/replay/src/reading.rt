@@ -3,7 +3,7 @@
 
 pub const NOWHERE: usize = 0xffff_ffff_ffff_ffff;
 
-// A token of one byte, and the place of the next token.
+// A byte, and the place after it.
 pub struct Mark {
     pub byte: u8,
     pub next: usize,
@@ -37,7 +37,7 @@ pub fn wide(byte: u8) -> usize {
 }
 
 // The first place of a byte from a place on, the line's end where there is none.
-fn find(line: &[u8], at: usize, byte: u8) -> usize {
+pub fn find(line: &[u8], at: usize, byte: u8) -> usize {
     let mut i = at;
     while i < line.len() {
         if line[i] == byte {
@@ -59,6 +59,18 @@ pub fn skip(line: &[u8], at: usize) -> usize {
     NOWHERE
 }
 
+// The place after up to sixteen tokens of any kind.
+pub fn skip_all(line: &[u8], at: usize, count: usize) -> usize {
+    let mut next = at;
+    for i in 0..16usize {
+        if i < count {
+            next = skip(line, next);
+        }
+    }
+    next
+}
+
+// A token of one byte.
 pub fn read_mark(line: &[u8], at: usize) -> Mark {
     if at < line.len() {
         let next = at + 2;
@@ -170,6 +182,29 @@ pub fn read_number_to(line: &[u8], at: usize, stop: u8) -> Number {
 
 pub fn read_number(line: &[u8], at: usize) -> Number {
     read_number_to(line, at, b' ')
+}
+
+// A byte in two hex digits, which are no token.
+pub fn read_byte(line: &[u8], at: usize) -> Mark {
+    if at < line.len() {
+        if 2 <= line.len() - at {
+            let end = at + 2;
+            let d = digits_of(&line[at..end], true);
+            let value = d.value;
+            if d.is_good {
+                if value <= 255 {
+                    return Mark {
+                        byte: value as u8,
+                        next: end,
+                    };
+                }
+            }
+        }
+    }
+    Mark {
+        byte: 0,
+        next: NOWHERE,
+    }
 }
 
 pub fn read_word(line: &[u8], at: usize) -> Word {

@@ -56,27 +56,6 @@ fn count(line: &[u8], at: usize) -> Told {
     }
 }
 
-fn enable(line: &[u8], at: usize) -> Told {
-    let s = inputs::read_seats(line, at);
-    let i = reading::read_number(line, s.next);
-    let set = s.value;
-    told_step(line, i.next, set.set, set.enable(i.value))
-}
-
-fn disable(line: &[u8], at: usize) -> Told {
-    let s = inputs::read_seats(line, at);
-    let i = reading::read_number(line, s.next);
-    let set = s.value;
-    told_step(line, i.next, set.set, set.disable(i.value))
-}
-
-fn get(line: &[u8], at: usize) -> Told {
-    let s = inputs::read_seats(line, at);
-    let i = reading::read_number(line, s.next);
-    let set = s.value;
-    told_seat(line, i.next, set.set, set.get(i.value))
-}
-
 // A seat, or 16 where none is left.
 fn seat_number(seat: NextSeat) -> usize {
     match seat {
@@ -85,25 +64,29 @@ fn seat_number(seat: NextSeat) -> usize {
     }
 }
 
-fn ones(line: &[u8], at: usize) -> Told {
+// A letter that asks with a set and a seat.
+fn ask_seat(letter: u8, line: &[u8], at: usize) -> Told {
     let s = inputs::read_seats(line, at);
     let i = reading::read_number(line, s.next);
     let set = s.value;
-    agreeing::told_number(line, i.next, seat_number(set.ones(i.value)))
+    match letter {
+        b'e' => told_step(line, i.next, set.set, set.enable(i.value)),
+        b'd' => told_step(line, i.next, set.set, set.disable(i.value)),
+        b'g' => told_seat(line, i.next, set.set, set.get(i.value)),
+        _ => agreeing::told_number(line, i.next, seat_number(set.ones(i.value))),
+    }
 }
 
-fn bitor(line: &[u8], at: usize) -> Told {
+// A letter that asks with two sets.
+fn ask_two(letter: u8, line: &[u8], at: usize) -> Told {
     let a = inputs::read_seats(line, at);
     let b = inputs::read_seats(line, a.next);
     let set = a.value;
-    told_set(line, b.next, set.bitor(b.value))
-}
-
-fn bitand(line: &[u8], at: usize) -> Told {
-    let a = inputs::read_seats(line, at);
-    let b = inputs::read_seats(line, a.next);
-    let set = a.value;
-    told_set(line, b.next, set.bitand(b.value))
+    if letter == b'o' {
+        told_set(line, b.next, set.bitor(b.value))
+    } else {
+        told_set(line, b.next, set.bitand(b.value))
+    }
 }
 
 pub fn ask(letter: u8, line: &[u8], at: usize) -> Told {
@@ -111,12 +94,8 @@ pub fn ask(letter: u8, line: &[u8], at: usize) -> Told {
         b'z' => told_set(line, at, PlayerBitSet::default()),
         b'n' => new(line, at),
         b'c' => count(line, at),
-        b'e' => enable(line, at),
-        b'd' => disable(line, at),
-        b'g' => get(line, at),
-        b'i' => ones(line, at),
-        b'o' => bitor(line, at),
-        b'a' => bitand(line, at),
+        b'e' | b'd' | b'g' | b'i' => ask_seat(letter, line, at),
+        b'o' | b'a' => ask_two(letter, line, at),
         _ => agreeing::no_match(),
     }
 }

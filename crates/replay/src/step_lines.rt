@@ -6,80 +6,60 @@ use crate::inputs;
 use crate::loading;
 use crate::reading;
 use crate::table_words;
-use rounds::AmountAnswer;
-use rounds::StepAnswer;
+use crate::words::Words;
 use table::AgentAction;
-use table::BetAnswer;
 use table::BetStep;
 use table::GameState;
 use table::TableStep;
 
-fn told_answer(line: &[u8], at: usize, answer: StepAnswer) -> Told {
-    match answer {
-        StepAnswer::Done(_) => Told {
-            answer: 0,
-            next: agreeing::answered(line, at),
-        },
-        StepAnswer::Refused(why) => agreeing::refused(line, at, why.number()),
-    }
-}
-
-fn told_step(line: &[u8], at: usize, step: TableStep, table: &mut [u32; 112]) -> Told {
-    let list = changes::follow(line, at, false, table);
-    let mut ours = [0u32; 112];
+// A step that is taken says how many seats its walk passed to, 0 where it has none.
+fn told_step(line: &[u8], at: usize, step: TableStep, table: &mut Words) -> Told {
     let t = step.table;
-    table_words::put(t, &mut ours);
     let answer = step.answer;
-    let told = told_answer(line, at, answer);
-    changes::agree(told, list, &ours, table)
+    let ours = table_words::of_table(t);
+    let next = agreeing::same_number(line, agreeing::answered(line, at), answer.passed());
+    let told = agreeing::told_answer(line, at, answer.number(), next);
+    changes::agree(line, at, 1, told, &ours, false, table)
 }
 
-fn told_payment(line: &[u8], at: usize, answer: BetAnswer) -> Told {
-    match answer {
-        BetAnswer::Paid(x, _) => agreeing::told_float(line, at, x),
-        BetAnswer::NotPaid(why) => agreeing::refused(line, at, why.number()),
-    }
-}
-
-fn told_bet(line: &[u8], at: usize, step: BetStep, table: &mut [u32; 112]) -> Told {
-    let list = changes::follow(line, at, true, table);
-    let mut ours = [0u32; 112];
+// A bet says what is paid, and how many seats the walk passed to.
+fn told_bet(line: &[u8], at: usize, step: BetStep, table: &mut Words) -> Told {
     let t = step.table;
-    table_words::put(t, &mut ours);
     let answer = step.answer;
-    let told = told_payment(line, at, answer);
-    changes::agree(told, list, &ours, table)
+    let ours = table_words::of_table(t);
+    let paid = agreeing::same_float(line, agreeing::answered(line, at), answer.paid());
+    let next = agreeing::same_number(line, paid, answer.passed());
+    let told = agreeing::told_answer(line, at, answer.number(), next);
+    changes::agree(line, at, 2, told, &ours, false, table)
 }
 
-fn do_bet(line: &[u8], at: usize, is_forced: bool, table: &mut [u32; 112]) -> Told {
+fn do_bet(line: &[u8], at: usize, is_forced: bool, table: &mut Words) -> Told {
     let amount = inputs::read_amount(line, at);
-    let t = table_words::of_words(table);
+    let t = table_words::table_at(table);
     let step = t.do_bet(amount.value, is_forced);
     told_bet(line, amount.next, step, table)
 }
 
-fn choose(line: &[u8], at: usize, action: AgentAction, table: &mut [u32; 112]) -> Told {
-    let t = table_words::of_words(table);
+fn choose(line: &[u8], at: usize, action: AgentAction, table: &mut Words) -> Told {
+    let t = table_words::table_at(table);
     let step = t.choose(action);
     told_bet(line, at, step, table)
 }
 
-fn award(line: &[u8], at: usize, table: &mut [u32; 112]) -> Told {
+fn award(line: &[u8], at: usize, table: &mut Words) -> Told {
     let seat = reading::read_number(line, at);
     let amount = inputs::read_amount(line, seat.next);
-    let t = table_words::of_words(table);
+    let t = table_words::table_at(table);
     let step = t.award(seat.value, amount.value);
     told_step(line, amount.next, step, table)
 }
 
-fn player_reward(line: &[u8], at: usize, table: &[u32; 112]) -> Told {
+fn player_reward(line: &[u8], at: usize, table: &Words) -> Told {
     let seat = reading::read_number(line, at);
-    let t = table_words::of_words(table);
+    let t = table_words::table_at(table);
     let reward = t.player_reward(seat.value);
-    match reward {
-        AmountAnswer::Is(x) => agreeing::told_float(line, seat.next, x),
-        AmountAnswer::Unknown(why) => agreeing::refused(line, seat.next, why.number()),
-    }
+    let next = agreeing::same_float(line, agreeing::answered(line, seat.next), reward.amount());
+    agreeing::told_answer(line, seat.next, reward.number(), next)
 }
 
 // The first five queries.
@@ -91,9 +71,9 @@ fn told_numbers(line: &[u8], at: usize, t: GameState) -> usize {
     agreeing::same_number(line, d, t.to_act_idx())
 }
 
-fn queries(line: &[u8], at: usize, table: &[u32; 112]) -> Told {
+fn queries(line: &[u8], at: usize, table: &Words) -> Told {
     let seat = reading::read_number(line, at);
-    let t = table_words::of_words(table);
+    let t = table_words::table_at(table);
     let a = told_numbers(line, seat.next, t);
     let b = agreeing::same_float(line, a, t.current_player_stack());
     let c = agreeing::same_float(line, b, t.current_player_starting_stack());
@@ -108,8 +88,8 @@ fn queries(line: &[u8], at: usize, table: &[u32; 112]) -> Told {
 }
 
 // A step that asks with nothing.
-fn step_alone(letter: u8, line: &[u8], at: usize, table: &mut [u32; 112]) -> Told {
-    let t = table_words::of_words(table);
+fn step_alone(letter: u8, line: &[u8], at: usize, table: &mut Words) -> Told {
+    let t = table_words::table_at(table);
     match letter {
         b'n' => told_step(line, at, t.advance_round(), table),
         b'x' => told_step(line, at, t.complete(), table),
@@ -118,7 +98,7 @@ fn step_alone(letter: u8, line: &[u8], at: usize, table: &mut [u32; 112]) -> Tol
     }
 }
 
-pub fn ask(letter: u8, line: &[u8], at: usize, table: &mut [u32; 112]) -> Told {
+pub fn ask(letter: u8, line: &[u8], at: usize, table: &mut Words) -> Told {
     match letter {
         b'T' => loading::load(line, at, true, table),
         b'U' => loading::load(line, at, false, table),

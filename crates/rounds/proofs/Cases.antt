@@ -8,11 +8,11 @@ use lib.Dec.{eqb}
 use lib.IntN.{pos}
 use lib.Ieee.{Float, nan, binary32, ofInt, lt, eq, isNan}
 use Rattle.floats.specs.Helpers.{zerof, maxOf}
-use Rattle.amounts.specs.Filled.{filled}
+use Rattle.commons.specs.Filled.{filled}
 use Rattle.amounts.specs.Amounts.{largestOf, aboveOf}
-use Rattle.refusals.specs.Tests.{allOf}
+use Rattle.commons.specs.Tests.{allOf}
 use Rattle.seats.specs.Bits.{has}
-use Rattle.seats.specs.First.{firstFrom}
+use Rattle.commons.specs.First.{firstFrom}
 use Rattle.seats.specs.Set.{ofBits}
 use Rattle.rounds.specs.declared.RoundData.{RoundData}
 use Rattle.rounds.specs.Sound.{soundParts}

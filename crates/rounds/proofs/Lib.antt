@@ -1,5 +1,6 @@
 pub mod Bet
 pub mod Cases
+pub mod LawsBack
 pub mod Loop
 pub mod Promises
 pub mod Sound

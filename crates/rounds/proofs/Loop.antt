@@ -5,7 +5,7 @@ use native.Mathlib.Omega.{arith}
 use mathlib.Core.Path.{_≡_, refl, sym, _∙_}
 use mathlib.Core.Bool.{true, false}
 use Rattle.seats.specs.Bits.{has}
-use Rattle.seats.proofs.First.{Passed, passed-on, found-at, none-is}
+use Rattle.commons.proofs.First.{Passed, passed-on, found-at, none-is}
 use Rattle.rounds.specs.declared.walking.Reached.{Reached}
 use Rattle.rounds.specs.Walk.{seatOn, owes, distance, reachedFrom}
 

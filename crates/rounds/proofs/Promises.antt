@@ -1,6 +1,6 @@
 -- Any pair of results that the `ensures` of a public function allows is equal, each by the one law `same`. The checker writes `ended`, the function's
 -- signature, and `Learnt`, what a caller learns from its `ensures`. `.ci/functions --check` asks a line for each public function. Assumes nothing.
-use Rattle.refusals.proofs.OneResult.{OneResult, same, only}
+use Rattle.commons.proofs.OneResult.{OneResult, same, only}
 use Rattle.rounds.proofs as crate
 
 -- ---- src/lib.rt
@@ -44,9 +44,28 @@ is-raise κs a x y = only same
 pub up-if : OneResult crate.paying.up_if.ended crate.paying.up_if.Reads.Learnt
 up-if κs a x y = only same
 
-pub counter-full : OneResult crate.paying.counter_full.ended crate.paying.counter_full.Reads.Learnt
-counter-full κs a x y = only same
+pub stake-is-full : OneResult crate.paying.Stake.is_full.ended crate.paying.Stake.is_full.Reads.Learnt
+stake-is-full κs a x y = only same
+
+pub stake-put-in : OneResult crate.paying.Stake.put_in.ended crate.paying.Stake.put_in.Reads.Learnt
+stake-put-in κs a x y = only same
+
+pub payer-pay : OneResult crate.paying.Payer.pay.ended crate.paying.Payer.pay.Reads.Learnt
+payer-pay κs a x y = only same
 
 -- ---- src/walking.rt
 pub walk : OneResult crate.walking.walk.ended crate.walking.walk.Reads.Learnt
 walk κs a x y = only same
+
+-- ---- src/answers.rt
+pub step-answer-number : OneResult crate.StepAnswer.number.ended crate.StepAnswer.number.Reads.Learnt
+step-answer-number κs a x y = only same
+
+pub step-answer-passed : OneResult crate.StepAnswer.passed.ended crate.StepAnswer.passed.Reads.Learnt
+step-answer-passed κs a x y = only same
+
+pub amount-answer-number : OneResult crate.AmountAnswer.number.ended crate.AmountAnswer.number.Reads.Learnt
+amount-answer-number κs a x y = only same
+
+pub amount-answer-amount : OneResult crate.AmountAnswer.amount.ended crate.AmountAnswer.amount.Reads.Learnt
+amount-answer-amount κs a x y = only same

@@ -3,8 +3,8 @@ use Prim.Native.Nat.{ℕ, _<_, _≤_, _^_}
 use native.Mathlib.Omega.{arith}
 use mathlib.Core.Path.{_≡_}
 use mathlib.Core.Bool.{Bool, true}
-use lib.Dec.{leb→le, ltb→lt}
-use Rattle.refusals.proofs.Tests.{each}
+use borrow.Author.Tests.{leb-true, ltb-true}
+use Rattle.commons.proofs.Tests.{test-at}
 use Rattle.rounds.specs.Sound.{soundTests, soundParts}
 
 pub record Sound (len to set : ℕ) : Type 0 where
@@ -17,7 +17,7 @@ pub record Sound (len to set : ℕ) : Type 0 where
 pub sound : (len to owing : ℕ) → soundParts len to owing ≡ true → Sound len to owing
 unfolding soundParts
 sound len to owing p =
-    let t = each (soundTests len to owing) p in
-    let few : len ≤ 16 = leb→le _ _ (t .1 .0) in
-    let acts : to < len = ltb→lt _ _ (t .1 .1 .0) in
-    record { some = leb→le _ _ (t .0); few = few; acts = acts; place = omega arith; owing = ltb→lt _ _ (t .1 .1 .1) }
+    let at = test-at (soundTests len to owing) p in
+    let few : len ≤ 16 = leb-true _ _ (at 1) in
+    let acts : to < len = ltb-true _ _ (at 2) in
+    record { some = leb-true _ _ (at 0); few = few; acts = acts; place = omega arith; owing = ltb-true _ _ (at 3) }

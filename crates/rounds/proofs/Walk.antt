@@ -6,13 +6,13 @@ use native.Mathlib.Omega.{arith}
 use mathlib.Core.Path.{_≡_, refl, sym, ap, _∙_}
 use mathlib.Core.Bool.{Bool, true, false, cond, _&&_}
 use mathlib.Core.Logic.{⊎-elim, _⊎_, inl, inr}
-use mathlib.Core.List.{[], _∷_}
-use lib.Dec.{ltb, leb, ltb→lt, leb→le}
-use Rattle.refusals.proofs.Tests.{each}
+use lib.Dec.{ltb, leb}
 use Rattle.rounds.specs.declared.walking.Reached.{Reached}
-use borrow.Author.Tests.{lt-ltb, le-ltb, le-leb}
+use borrow.Author.Tests.{lt-ltb, le-ltb, le-leb, ltb-true, leb-true}
 use Rattle.seats.specs.Bits.{has}
-use Rattle.seats.proofs.First.{Found, Nowhere, first-cases, lt-or-le, differ}
+use Rattle.commons.proofs.First.{Found, Nowhere, first-cases}
+use Rattle.commons.proofs.Order.{lt-or-le}
+use Rattle.commons.proofs.Bools.{differ, and-both}
 use Rattle.rounds.specs.Walk.{seatOn, owes, distance, reachedFrom, walkOf}
 
 -- from s clockwise to t: n where they are the same
@@ -99,7 +99,7 @@ few false n s d h = omega arith
 pub walk-few : (owing n s : ℕ) → walkOf owing n s .passed ≤ 16
 unfolding walkOf
 walk-few owing n s = few (ltb s n && leb n 16) s (seatOn n s (distance owing n s)) (distance owing n s)
-    (λ e. let t = each (ltb s n ∷ leb n 16 ∷ []) e in omega (arith, distance-high owing n s (ltb→lt s n (t .0)), leb→le n 16 (t .1)))
+    (λ e. let t = and-both (ltb s n) (leb n 16) e in omega (arith, distance-high owing n s (ltb-true s n (t .0)), leb-true n 16 (t .1)))
 
 pub walked-few : (w : Reached) (owing n s : ℕ) → w ≡ walkOf owing n s → w .passed ≤ 16
 walked-few w owing n s e = rw e (walk-few owing n s)

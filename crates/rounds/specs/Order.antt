@@ -1,4 +1,4 @@
--- Document 01, "Rounds": the order of the twelve, and the number that the script prints. Definitions only.
+-- R3.1: the order of the twelve rounds, and the number that the script prints. Definitions only.
 use Prim.Native.Nat.{ℕ}
 use Rattle.rounds.specs.declared.Round.{Round}
 use Rattle.rounds.specs.declared.Round.the-variants.{Starting, Ante, DealPreflop, Preflop, DealFlop, Flop, DealTurn, Turn, DealRiver, River, Showdown, Complete}

@@ -1,12 +1,12 @@
--- Document 01, "Round data alone": 19 unless each of these tests holds. Definitions only.
+-- R3.3: round data alone is 19 unless each of these tests holds. Definitions only.
 use Prim.Native.Nat.{ℕ, _^_}
 use mathlib.Core.Bool.{Bool}
 use mathlib.Core.List.{List, [], _∷_}
 use lib.Dec.{leb, ltb}
-use Rattle.refusals.specs.Tests.{allOf}
+use Rattle.commons.specs.Tests.{allOf}
 use Rattle.rounds.specs.declared.RoundData.{RoundData}
 
--- a list length of 1 to 16; neither the seat to act nor an owing seat at or above it
+-- a list of 1 to 16 places, in which the seat to act and every owing seat have theirs
 abbrev pub soundTests : ℕ → ℕ → ℕ → List Bool
 soundTests len to owing = leb 1 len ∷ leb len 16 ∷ ltb to len ∷ ltb owing (2 ^ len) ∷ []
 

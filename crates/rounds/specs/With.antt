@@ -1,4 +1,4 @@
--- Round data made and changed. `dataOf` alone lists the fields. Definitions only.
+-- R3.2: round data made and changed. `dataOf` alone lists the fields. Definitions only.
 use Prim.Native.Nat.{ℕ}
 use mathlib.Core.List.{List}
 use lib.Ieee.{Float}

@@ -1,4 +1,5 @@
 // The first half of text 000: the twelve rounds, and round data with its walk.
+mod answers;
 pub mod paying;
 pub mod walking;
 
@@ -8,7 +9,8 @@ ghost use lib.Dec.{eqb};
 ghost use Rattle.seats.specs.Bits.{countTo};
 ghost use Rattle.rounds.specs.Order.{nextOf, roundNumber};
 ghost use Rattle.rounds.specs.Sound.{soundParts};
-ghost use Rattle.rounds.specs.Steps.{newOf, withBetsOf, advanceOf, betOf, currentBet, noData, paysOf};
+ghost use Rattle.rounds.specs.Steps.{newOf, withBetsOf, advanceOf, betOf, currentBet, noData, stakeIn, withStake};
+use paying::Stake;
 use refusals::AddedError;
 use refusals::Refusal;
 use seats::PlayerBitSet;
@@ -205,27 +207,38 @@ impl RoundData {
         }
     }
 
-    // The data after the seat to act put in x. The list is held apart while it changes.
-    fn paid(self, x: f32, is_forced: bool) -> RoundData
+    // The stake of the seat to act.
+    fn stake(self) -> Stake
         requires { ⌜ self .«to_act_idx» < 16 ⌝ }
-        ensures { λ r. ⌜ r ≡ paysOf self x «is_forced» ⌝ }
+        ensures { λ r. ⌜ r ≡ stakeIn self ⌝ }
+    {
+        let bets = self.player_bet;
+        let at = self.to_act_idx;
+        Stake {
+            round_bet: bets[at],
+            bet: self.bet,
+            min_raise: self.min_raise,
+            total: self.total_bet_count,
+            raises: self.total_raise_count,
+            forced: self.forced_bet_count,
+        }
+    }
+
+    // With another stake of the seat to act. The list is held apart while it changes.
+    fn with_stake(self, s: Stake) -> RoundData
+        requires { ⌜ self .«to_act_idx» < 16 ⌝ }
+        ensures { λ r. ⌜ r ≡ withStake self s ⌝ }
     {
         let mut d = self;
         let mut bets = d.player_bet;
         let at = d.to_act_idx;
-        let old = d.bet;
-        let y = bets[at] + x;
-        let b = floats::max(old, y);
-        let total = paying::up_if(true, d.total_bet_count);
-        let raises = paying::up_if(paying::is_raise(is_forced, old, y), d.total_raise_count);
-        let forced = paying::up_if(is_forced, d.forced_bet_count);
-        bets[at] = y;
-        d.min_raise = floats::max(d.min_raise, b - old);
-        d.bet = b;
+        bets[at] = s.round_bet;
+        d.min_raise = s.min_raise;
+        d.bet = s.bet;
         d.player_bet = bets;
-        d.total_bet_count = total;
-        d.total_raise_count = raises;
-        d.forced_bet_count = forced;
+        d.total_bet_count = s.total;
+        d.total_raise_count = s.raises;
+        d.forced_bet_count = s.forced;
         d
     }
 
@@ -233,14 +246,9 @@ impl RoundData {
     pub fn do_bet(self, extra_amount: f32, is_forced: bool) -> RoundStep
         ensures { λ r. ⌜ r ≡ betOf self «extra_amount» «is_forced» ⌝ }
     {
-        let bets = self.player_bet;
-        let at = self.to_act_idx;
-        if is_sound(self.player_bet_len, at, self.needs_action.set) {
-            let y = bets[at] + extra_amount;
-            let total = self.total_bet_count;
-            let raise = self.total_raise_count;
-            let force = self.forced_bet_count;
-            if paying::counter_full(total, raise, force, is_forced, self.bet, y) {
+        if is_sound(self.player_bet_len, self.to_act_idx, self.needs_action.set) {
+            let stake = self.stake();
+            if stake.is_full(extra_amount, is_forced) {
                 return RoundStep {
                     answer: StepAnswer::Refused(Refusal::Added(AddedError::CounterFull)),
                     round_data: self,
@@ -248,7 +256,7 @@ impl RoundData {
             }
             return RoundStep {
                 answer: StepAnswer::Done(0),
-                round_data: self.paid(extra_amount, is_forced),
+                round_data: self.with_stake(stake.put_in(extra_amount, is_forced)),
             };
         }
         RoundStep {

@@ -3,7 +3,7 @@ ghost use mathlib.Core.Path.{_≡_};
 ghost use Prim.Native.Nat.{_+_, _%_, _<_, _≤_};
 ghost use Rattle.rounds.specs.Walk.{walkOf, reachedFrom};
 
-// Where a walk ends, and how many seats it passed to.
+// Where a walk ends, and the number of seats passed to.
 pub struct Reached {
     pub seat: usize,
     pub passed: usize,

@@ -10,20 +10,12 @@ use lib.Dec.{T, eqb, ltb, leb}
 use lib.Bits.{bitAnd, bitOr, or-shr, or-mod, and-shr, and-mod, or-lt, and-le-l}
 use lib.Pow.{pow-mono, pow-lt, pow-pos, shl-exact, mod-pow-add}
 use lib.Count.{ones, ones-cat, ones-le}
-use lib.Ieee.Fits.{and-l, and-r}
 use borrow.Author.Tests.{lt-ltb, le-ltb, eqb-true, eq-eqb, ne-eqb}
-use Rattle.seats.proofs.First.{Passed, lt-or-le}
+use Rattle.commons.specs.Folds.{allTo}
+use Rattle.commons.proofs.First.{Passed}
+use Rattle.commons.proofs.Folds.{all-at}
+use Rattle.commons.proofs.Order.{lt-or-le}
 use Rattle.seats.specs.Bits.{has, upTo, countTo, with, without}
-
--- ---- a test of each number below n, computed, and what it says of one of them
-pub all : ℕ → (ℕ → Bool) → Bool
-all zero p = true
-all (suc n) p = p n && all n p
-
-pub all-at : (n : ℕ) (p : ℕ → Bool) → T (all n p) → (i : ℕ) → i < n → T (p i)
-unfolding all
-all-at zero p t i h = absurd (omega arith)
-all-at (suc n) p t i h = ⊎-elim (λ e. subst (λ (k : ℕ). T (p k)) (sym e) (and-l (p n) (all n p) t)) (λ l. all-at n p (and-r (p n) (all n p) t) i l) (eq-or-lt-of-le (le-of-suc-le-suc h))
 
 -- ---- one bit shifted
 pub shifted : (i w : ℕ) → i < w → 1 * 2 ^ i % 2 ^ w ≡ 2 ^ i
@@ -75,24 +67,24 @@ same : Bool → Bool → Bool
 same true b = b
 same false b = not b
 
-same-is : (a b : Bool) → T (same a b) → a ≡ b
+same-is : (a b : Bool) → same a b ≡ true → a ≡ b
 unfolding same
 same-is true true t = refl
 same-is false false t = refl
-same-is false true t = absurd t
-same-is true false t = absurd t
+same-is false true t = t
+same-is true false t = sym t
 
 one-seat : (i j : ℕ) → i < 16 → j < 16 → has (2 ^ i) j ≡ eqb i j
-unfolding has all same
-one-seat i j h k = same-is _ _ (all-at 16 (λ (j : ℕ). same (has (2 ^ i) j) (eqb i j)) (all-at 16 (λ (i : ℕ). all 16 (λ (j : ℕ). same (has (2 ^ i) j) (eqb i j))) tt i h) j k)
+unfolding has allTo same
+one-seat i j h k = same-is _ _ (all-at 16 (λ (j : ℕ). same (has (2 ^ i) j) (eqb i j)) (all-at 16 (λ (i : ℕ). allTo 16 (λ (j : ℕ). same (has (2 ^ i) j) (eqb i j))) refl i h) j k)
 
 all-but : (i j : ℕ) → i < 16 → j < 16 → has (0xffff - 2 ^ i) j ≡ not (eqb i j)
-unfolding has all same
-all-but i j h k = same-is _ _ (all-at 16 (λ (j : ℕ). same (has (0xffff - 2 ^ i) j) (not (eqb i j))) (all-at 16 (λ (i : ℕ). all 16 (λ (j : ℕ). same (has (0xffff - 2 ^ i) j) (not (eqb i j)))) tt i h) j k)
+unfolding has allTo same
+all-but i j h k = same-is _ _ (all-at 16 (λ (j : ℕ). same (has (0xffff - 2 ^ i) j) (not (eqb i j))) (all-at 16 (λ (i : ℕ). allTo 16 (λ (j : ℕ). same (has (0xffff - 2 ^ i) j) (not (eqb i j)))) refl i h) j k)
 
 pub has-upTo : (n j : ℕ) → n ≤ 16 → j < 16 → has (upTo n) j ≡ ltb j n
-unfolding has all same upTo
-has-upTo n j h k = same-is _ _ (all-at 16 (λ (j : ℕ). same (has (upTo n) j) (ltb j n)) (all-at 17 (λ (n : ℕ). all 16 (λ (j : ℕ). same (has (upTo n) j) (ltb j n))) tt n (omega arith)) j k)
+unfolding has allTo same upTo
+has-upTo n j h k = same-is _ _ (all-at 16 (λ (j : ℕ). same (has (upTo n) j) (ltb j n)) (all-at 17 (λ (n : ℕ). allTo 16 (λ (j : ℕ). same (has (upTo n) j) (ltb j n))) refl n (omega arith)) j k)
 
 pub has-with : (s i j : ℕ) → i < 16 → j < 16 → has (with s i) j ≡ (has s j || eqb i j)
 unfolding with

@@ -1,3 +1,3 @@
-pub mod First
 pub mod Laws
+pub mod LawsBack
 pub mod Promises

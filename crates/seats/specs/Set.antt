@@ -1,4 +1,4 @@
--- Text 001: what the calls on a set answer; 3 for a new set above 16, 20 for a seat above 15. Definitions only.
+-- Section 1, seats: what the calls on a set answer; 3 where a new set is too large, 20 where there is no such seat. Definitions only.
 use Prim.Native.Nat.{ℕ}
 use mathlib.Core.Bool.{Bool, true, false, cond}
 use lib.Dec.{leb, ltb}
@@ -18,20 +18,22 @@ use Rattle.seats.specs.declared.NextSeat.{NextSeat}
 use Rattle.seats.specs.declared.NextSeat.the-variants.{At, NoMore}
 use Rattle.seats.specs.Bits.{has, upTo, with, without, nextFrom}
 
+-- R1.1: the set of a number
 abbrev pub ofBits : ℕ → PlayerBitSet
 ofBits s = record { set = s }
 
--- the set that was made, and a refusal beside the set it hands back
+-- R1.9: the set that was made, and a refusal beside the set it hands back
 abbrev pub made : ℕ → SetStep
 made s = record { answer = Made; set = ofBits s }
 
 abbrev pub refused : Refusal → PlayerBitSet → SetStep
 refused r s = record { answer = Refused r; set = s }
 
--- the first n seats; above 16 refused, with nobody
+-- R1.2: the first n seats; above 16 refused, with nobody
 unfoldable pub newOf : ℕ → SetStep
 newOf n = cond (leb n 16) (made (upTo n)) (refused (Build InvalidPlayerCount) (ofBits 0))
 
+-- R1.3, R1.4, R1.5: a seat put in, taken out, asked for
 unfoldable pub enableOf : PlayerBitSet → ℕ → SetStep
 enableOf s i = cond (ltb i 16) (made (with (s .set) i)) (refused (Added BadSeat) s)
 
@@ -41,11 +43,11 @@ disableOf s i = cond (ltb i 16) (made (without (s .set) i)) (refused (Added BadS
 unfoldable pub getOf : PlayerBitSet → ℕ → SeatStep
 getOf s i = cond (ltb i 16) (record { answer = Is (has (s .set) i); set = s }) (record { answer = NoSeat (Added BadSeat); set = s })
 
--- the next seat of the iterator, asked from a place on
+-- R1.7: the next seat of the iterator, asked from a place on
 unfoldable pub onesOf : PlayerBitSet → ℕ → NextSeat
 onesOf s i = cond (ltb (nextFrom (s .set) i) 16) (At (nextFrom (s .set) i)) NoMore
 
--- the paper's number of an answer, and the number asked: false where refused
+-- R1.9: the number of an answer, and what was asked: false where refused
 abbrev pub numberOf : SetAnswer → ℕ
 numberOf Made = 0
 numberOf (Refused r) = Number.numberOf r
@@ -58,7 +60,7 @@ abbrev pub seatIs : SeatAnswer → Bool
 seatIs (Is b) = b
 seatIs (NoSeat r) = false
 
--- the seat of the iterator's answer, 16 where none is left
+-- R1.9: the seat of the iterator's answer, 16 where none is left
 abbrev pub seatOf : NextSeat → ℕ
 seatOf (At i) = i
 seatOf NoMore = 16

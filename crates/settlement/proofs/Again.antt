@@ -13,21 +13,20 @@ use borrow.Author.Tests.{lt-ltb, le-ltb}
 use Rattle.refusals.specs.declared.Refusal.the-variants.{Added}
 use Rattle.refusals.specs.declared.AddedError.the-variants.{AlreadyPaid}
 use Rattle.floats.specs.Helpers.{zerof}
-use Rattle.seats.proofs.First.{differ}
+use Rattle.commons.proofs.Bools.{differ, surely, never}
 use Rattle.table.specs.declared.GameState.{GameState}
 use Rattle.chips.specs.Whole.{chipsIn}
-use Rattle.chips.proofs.Sums.{sum-same, sum-part}
+use Rattle.commons.proofs.Folds.{sum-same, sum-part, sum-zero, any-at}
 use Rattle.chips.proofs.Whole.{one-number}
-use Rattle.layers.proofs.Bools.{surely, never}
-use Rattle.layers.proofs.Folds.{sum-zero, any-at}
-use Rattle.settlement.specs.declared.SettleAnswer.the-variants.{Paid}
+use Rattle.refusals.specs.declared.Verdict.the-variants.{Stands}
 use Rattle.settlement.specs.declared.Settled.{Settled}
-use Rattle.settlement.specs.Settlement.{anyWon, isPaid, refused, settledOf, settleNumber}
+use Rattle.settlement.specs.Settlement.{anyWon, isPaid, refused, settledOf}
+use Rattle.refusals.specs.Rows.{verdictNumber}
 use Rattle.settlement.proofs.Accepted.{accepted, already-paid, never-24}
 use Rattle.settlement.proofs.Promises.{after, awardOf, awards-add, none-won, winnings-is, winnings-stay, stays-sound}
 use Rattle.settlement.proofs.Unpaid.{won-at, zero-at}
 
-module _ (t : GameState) (ranks : List ℕ) (paid : settledOf t ranks .answer ≡ Paid) where
+module _ (t : GameState) (ranks : List ℕ) (paid : settledOf t ranks .answer ≡ Stands) where
   abbrev n : ℕ
   n = t .«num_players»
 
@@ -58,5 +57,5 @@ module _ (t : GameState) (ranks : List ℕ) (paid : settledOf t ranks .answer �
   pub twice : 0 < chipsIn (t .«total_pot») → (again : List ℕ) → settledOf (after t ranks) again ≡ refused (after t ranks) (Added AlreadyPaid)
   twice p again = already-paid (after t ranks) again (stays-sound t ranks paid) (paid-after ∙ lt-ltb 0 (chipsIn (t .«total_pot»)) p)
 
-  pub not-twice : chipsIn (t .«total_pot») ≡ 0 → (again : List ℕ) → settleNumber (settledOf (after t ranks) again .answer) ≢ 24
+  pub not-twice : chipsIn (t .«total_pot») ≡ 0 → (again : List ℕ) → verdictNumber (settledOf (after t ranks) again .answer) ≢ 24
   not-twice z again = never-24 (after t ranks) again (paid-after ∙ le-ltb 0 (chipsIn (t .«total_pot»)) (omega arith))

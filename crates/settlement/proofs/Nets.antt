@@ -9,13 +9,13 @@ use lib.Signed.{mag}
 use lib.ListN.{getD, getD-replicate, List·getD-eq-default}
 use mir.Syntax.{w32}
 use mir.Val.{SFits}
-use Rattle.seats.proofs.First.{lt-or-le}
-use Rattle.amounts.proofs.Filled.{filled-at, filled-out}
+use Rattle.commons.proofs.Order.{lt-or-le}
+use Rattle.commons.proofs.Filled.{filled-at, filled-out}
 use Rattle.table.specs.declared.GameState.{GameState}
 use Rattle.table.proofs.Sound.{sound}
 use Rattle.chips.specs.Whole.{most}
 use Rattle.chips.proofs.Whole.{chips-le}
-use Rattle.settlement.specs.declared.SettleAnswer.the-variants.{Paid}
+use Rattle.refusals.specs.declared.Verdict.the-variants.{Stands}
 use Rattle.settlement.specs.declared.Settled.{Settled}
 use Rattle.settlement.specs.Hand.{chipsAt}
 use Rattle.settlement.specs.Settlement.{noRewards, rewardsOf, settledOf}
@@ -26,7 +26,7 @@ use Rattle.settlement.proofs.Signed.{less-mag, less-fits}
 abbrev pub rewardOf : GameState → List ℕ → ℕ → ℤ
 rewardOf t ranks i = getD (settledOf t ranks .rewards) i (pos 0)
 
-module _ (t : GameState) (ranks : List ℕ) (paid : settledOf t ranks .answer ≡ Paid) where
+module _ (t : GameState) (ranks : List ℕ) (paid : settledOf t ranks .answer ≡ Stands) where
   abbrev n : ℕ
   n = t .«num_players»
 

@@ -7,22 +7,22 @@ use mathlib.Core.List.{List}
 use mathlib.Core.Bool.{true}
 use lib.ListN.{getD, length}
 use lib.Ieee.{nan}
-use Rattle.refusals.proofs.OneResult.{OneResult, same, only}
+use Rattle.commons.proofs.OneResult.{OneResult, same, only}
 use Rattle.table.specs.declared.GameState.{GameState}
 use Rattle.table.specs.Sound.{soundOf}
 use Rattle.table.specs.With.{withAward}
 use Rattle.table.proofs.Sound.{sound}
-use Rattle.chips.specs.Sums.{sumTo}
+use Rattle.commons.specs.Folds.{sumTo}
 use Rattle.chips.specs.Whole.{most, chipsIn, sumChips}
 use Rattle.chips.proofs.Lists.{amount-at}
-use Rattle.chips.proofs.Sums.{sum-part}
+use Rattle.commons.proofs.Folds.{sum-part}
 use Rattle.chips.proofs.Value.{Is}
 use Rattle.chips.proofs.Whole.{chips-are}
 use Rattle.layers.specs.declared.Hand.{Hand}
 use Rattle.layers.specs.Settlement.{rank, contends, top, reached, wins, share, award, awardsOf, awarded}
 use Rattle.layers.proofs.Whole.{gets}
 use Rattle.layers.proofs.Promises as layers
-use Rattle.settlement.specs.declared.SettleAnswer.the-variants.{Paid}
+use Rattle.refusals.specs.declared.Verdict.the-variants.{Stands}
 use Rattle.settlement.specs.declared.Settled.{Settled}
 use Rattle.settlement.specs.Hand.{chipsAt, handOf}
 use Rattle.settlement.specs.Settlement.{raisedAll, settledOf}
@@ -43,7 +43,7 @@ after t ranks = settledOf t ranks .table
 abbrev pub awardOf : GameState → List ℕ → ℕ → ℕ
 awardOf t ranks i = awarded (handOf t ranks) i
 
-module _ (t : GameState) (ranks : List ℕ) (paid : settledOf t ranks .answer ≡ Paid) where
+module _ (t : GameState) (ranks : List ℕ) (paid : settledOf t ranks .answer ≡ Stands) where
   abbrev n : ℕ
   n = t .«num_players»
 
@@ -134,7 +134,7 @@ module _ (t : GameState) (ranks : List ℕ) (paid : settledOf t ranks .answer �
   pub winnings-is : (i : ℕ) → i < n → Is (getD (after t ranks .«player_winnings») i nan) (chipsAt (t .«player_winnings») i + awardOf t ranks i)
   winnings-is i h = rw winnings-are (raising.raised-to n (t .«player_winnings») awards winnings-long winnings-whole winnings-room i h)
 
-  -- ---- stacks plus pot less winnings stays, here with the winnings on the other side
+  -- ---- stacks and pot grow by what is won, here with the old winnings on the other side
   pub chips-stay :
       sumChips (after t ranks .stacks) n + chipsIn (after t ranks .«total_pot») + sumChips (t .«player_winnings») n
       ≡ sumChips (t .stacks) n + chipsIn (t .«total_pot») + sumChips (after t ranks .«player_winnings») n

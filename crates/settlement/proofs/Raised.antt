@@ -9,15 +9,14 @@ use mathlib.Core.List.{List}
 use lib.ListN.{length, getD}
 use lib.Ieee.{Float, nan}
 use borrow.Author.Tests.{eq-eqb, ne-eqb}
-use Rattle.seats.proofs.First.{lt-or-le}
-use Rattle.amounts.proofs.Filled.{filled-at, filled-out}
-use Rattle.chips.specs.Sums.{sumTo}
+use Rattle.commons.proofs.Order.{lt-or-le}
+use Rattle.commons.proofs.Filled.{filled-at, filled-out}
+use Rattle.commons.specs.Folds.{sumTo}
 use Rattle.chips.specs.Whole.{most, sumChips}
 use Rattle.chips.proofs.Add.{add-whole}
-use Rattle.chips.proofs.Sums.{sum-same}
+use Rattle.commons.proofs.Folds.{sum-same, sum-add}
 use Rattle.chips.proofs.Value.{Is}
 use Rattle.chips.proofs.Whole.{of-int, chips-are}
-use Rattle.layers.proofs.Folds.{sum-add}
 use Rattle.settlement.specs.Hand.{chipsAt}
 use Rattle.settlement.specs.Settlement.{raised, raisedAll}
 

@@ -9,7 +9,7 @@ use mir.Syntax.{w32}
 use mir.Val.{SFits, toZ, ofZ}
 use mir.ValLaws.{toZ-pos, toZ-ofZ}
 use borrow.Author.Tests.{lt-ltb, le-ltb}
-use Rattle.seats.proofs.First.{lt-or-le}
+use Rattle.commons.proofs.Order.{lt-or-le}
 use Rattle.chips.specs.Whole.{most}
 
 sub-mag : (a b k : ℕ) → a ≤ k → b ≤ k → mag (subℕ a b) ≤ k

@@ -14,11 +14,11 @@ use lib.Ieee.Fits.{up-pos}
 use lib.Pow.{pow-pos}
 use borrow.Author.Tests.{eqb-true}
 use Rattle.floats.specs.Helpers.{zerof}
-use Rattle.seats.proofs.First.{either, differ, lt-or-le}
+use Rattle.commons.proofs.Bools.{either, differ, and-both}
+use Rattle.commons.proofs.Order.{lt-or-le}
 use Rattle.chips.proofs.Add.{no-factor}
-use Rattle.chips.proofs.Compare.{and-both}
 use Rattle.chips.proofs.Value.{Is}
-use Rattle.layers.proofs.Folds.{any-some}
+use Rattle.commons.proofs.Folds.{any-some}
 use Rattle.settlement.specs.Settlement.{anyWon}
 
 -- ---- an amount that equals 0

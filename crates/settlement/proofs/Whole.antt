@@ -5,17 +5,17 @@ use mathlib.Core.Path.{_≡_, sym, _∙_}
 use mathlib.Core.Logic.{⊎-elim}
 use mathlib.Core.List.{List}
 use mathlib.Core.Bool.{true}
-use lib.Dec.{leb→le, eqb→eq}
 use lib.ListN.{length}
 use lib.Ieee.{Float}
-use lib.Ieee.Bits.{is-true}
-use Rattle.refusals.proofs.Tests.{each}
-use Rattle.seats.proofs.First.{differ, lt-or-le}
-use Rattle.amounts.proofs.Filled.{filled-at}
+use borrow.Author.Tests.{leb-true, eqb-true}
+use Rattle.commons.proofs.Tests.{test-at}
+use Rattle.commons.proofs.Bools.{differ}
+use Rattle.commons.proofs.Order.{lt-or-le}
+use Rattle.commons.proofs.Filled.{filled-at}
 use Rattle.table.specs.declared.GameState.{GameState}
 use Rattle.table.proofs.Sound.{Sound}
 use Rattle.chips.specs.Whole.{most, isWhole, chipsIn, allWhole, sumChips}
-use Rattle.chips.proofs.Sums.{sum-same}
+use Rattle.commons.proofs.Folds.{sum-same}
 use Rattle.chips.proofs.Lists as chips
 use Rattle.layers.specs.Settlement.{bet, potOf, isPayable, nothing}
 use Rattle.layers.proofs.Payable.{payable-is}
@@ -43,15 +43,14 @@ module _ (t : GameState) where
   pub whole : isWholeTable t ≡ true → Whole t
   unfolding inChips
   whole w =
-      let e = each (chipTests (t .«num_players») (t .stacks) (t .«player_bet») (t .«starting_stacks») (t .«total_pot»)) w in
-      let sums = e .1 .1 .1 .1 in
+      let at = test-at (chipTests (t .«num_players») (t .stacks) (t .«player_bet») (t .«starting_stacks») (t .«total_pot»)) w in
       record {
-        stacks-whole = is-true _ (e .0);
-        bets-whole = is-true _ (e .1 .0);
-        starting-whole = is-true _ (e .1 .1 .0);
-        pot-whole = is-true _ (e .1 .1 .1 .0);
-        limit = leb→le _ _ (sums .0);
-        equal = eqb→eq _ _ (sums .1);
+        stacks-whole = at 0;
+        bets-whole = at 1;
+        starting-whole = at 2;
+        pot-whole = at 3;
+        limit = leb-true _ _ (at 4);
+        equal = eqb-true _ _ (at 5);
       }
 
   -- ---- its hand

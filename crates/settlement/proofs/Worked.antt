@@ -10,20 +10,21 @@ use lib.Ieee.{Float, nan, fin, binary32, ofInt, add, eq, ne, le, lt}
 use Rattle.floats.specs.Helpers.{zerof}
 use Rattle.seats.specs.Bits.{has, with, countTo, seatsWhere}
 use Rattle.seats.specs.Set.{ofBits}
-use Rattle.amounts.specs.Filled.{filled}
+use Rattle.commons.specs.Filled.{filled}
 use Rattle.rounds.specs.declared.Round.the-variants.{River}
 use Rattle.rounds.specs.Steps.{newData}
 use Rattle.table.specs.declared.GameState.{GameState}
-use Rattle.table.specs.Sound.{soundParts, boardOk, cardsOk}
+use Rattle.table.specs.Added.{noAdded, goodAdded}
+use Rattle.table.specs.Sound.{soundFrame, boardOk, cardsOk}
 use Rattle.table.specs.With.{tableOf}
-use Rattle.chips.specs.Sums.{sumTo, allTo}
+use Rattle.commons.specs.Folds.{sumTo, allTo, mostTo, anyTo}
 use Rattle.chips.specs.Whole.{isWhole, chipsIn, allWhole, sumChips}
-use Rattle.layers.specs.Folds.{mostTo, anyTo}
 use Rattle.layers.specs.Sharing.{ahead, shareOf}
 use Rattle.layers.specs.Settlement.{contends, isLevel, top, levelBelow, isLayer, potOf, putIn, holds, reached, best, wins, share, award, isPayable, awardsOf}
 use Rattle.settlement.specs.declared.Settled.{Settled}
 use Rattle.settlement.specs.Hand.{countedOf, firstOf}
-use Rattle.settlement.specs.Settlement.{anyWon, inChips, verdictOf, raised, raisedAll, rewardsOf, settledOf, settleNumber}
+use Rattle.settlement.specs.Settlement.{anyWon, inChips, raised, raisedAll, rewardsOf, settledOf}
+use Rattle.refusals.specs.Rows.{verdictNumber}
 
 chips : ℕ → Float
 chips k = ofInt binary32 (pos k)
@@ -44,7 +45,7 @@ seated active allIn pot stacks bets winnings =
     let n = length bets in
     let put = padded zerof (map chips bets) in
     tableOf n active allIn (chips pot) (padded zerof stacks) put put (padded zerof winnings) (chips 10) (chips 5) zerof 0 River River
-    (newData n (chips 10) (ofBits 0) 0) (replicate 5 0) 0 true true true 3
+    (newData n (chips 10) (ofBits 0) 0) (replicate 5 0) 0 true true true 3 noAdded
 
 -- what is looked at
 record Seen : Type 0 where
@@ -59,7 +60,7 @@ record Case : Type 0 where
   gives : Seen
 
 seen : Settled → Seen
-seen s = record { number = settleNumber (s .answer); stacks = s .table .stacks; winnings = s .table .«player_winnings»; rewards = s .rewards }
+seen s = record { number = verdictNumber (s .answer); stacks = s .table .stacks; winnings = s .table .«player_winnings»; rewards = s .rewards }
 
 -- a hand paid from stacks and winnings of 0: the bets, the ranks, the awards, the rewards
 paid : ℕ → ℕ → ℕ → List ℕ → List ℕ → List ℕ → List ℤ → Case
@@ -73,9 +74,9 @@ refused number t = record { table = t; ranks = replicate 16 1; gives = record { 
 
 cases : List Case
 cases =
-    -- "Hand bets 10, 30, 30, ranks 9, 5, 5: awards 30, 20, 20."
+    -- the best rank reached the lower level alone
     paid 6 1 70 (10 ∷ 30 ∷ 30 ∷ []) (9 ∷ 5 ∷ 5 ∷ []) (30 ∷ 20 ∷ 20 ∷ []) (pos 20 ∷ negsuc 9 ∷ negsuc 9 ∷ [])
-    -- "Bets 5, 5, 5, seat 0 folded, equal ranks: 0, 8, 7."
+    -- an odd chip, and a seat that folded
     ∷ paid 6 0 15 (5 ∷ 5 ∷ 5 ∷ []) (1 ∷ 1 ∷ 1 ∷ []) (0 ∷ 8 ∷ 7 ∷ []) (negsuc 4 ∷ pos 3 ∷ pos 2 ∷ [])
     -- odd chips are per layer
     ∷ paid 14 0 27 (6 ∷ 5 ∷ 8 ∷ 8 ∷ []) (1 ∷ 1 ∷ 1 ∷ 1 ∷ []) (0 ∷ 7 ∷ 11 ∷ 9 ∷ []) (negsuc 5 ∷ pos 2 ∷ pos 3 ∷ pos 1 ∷ [])
@@ -111,5 +112,5 @@ cases =
     ∷ []
 
 right : map (λ c. seen (settledOf (c .table) (c .ranks))) cases ≡ map (λ c. c .gives) cases
-unfolding cases paid refused seated seen padded chips half minus-zero settledOf verdictOf anyWon inChips raised raisedAll rewardsOf countedOf firstOf soundParts boardOk cardsOk isWhole chipsIn allWhole sumChips sumTo allTo mostTo anyTo filled has with countTo seatsWhere ahead shareOf contends isLevel top levelBelow isLayer potOf putIn holds reached best wins share award isPayable awardsOf ofInt add eq ne le lt
+unfolding cases paid refused seated seen padded chips half minus-zero settledOf anyWon inChips raised raisedAll rewardsOf countedOf firstOf soundFrame boardOk cardsOk goodAdded isWhole chipsIn allWhole sumChips sumTo allTo mostTo anyTo filled has with countTo seatsWhere ahead shareOf contends isLevel top levelBelow isLayer potOf putIn holds reached best wins share award isPayable awardsOf ofInt add eq ne le lt
 right = refl

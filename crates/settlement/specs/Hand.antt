@@ -1,9 +1,9 @@
--- Document 01, "Settlement": the hand of a record in whole chips, as its layers are made. Definitions only.
+-- R11.1, R11.7: the hand of a record in whole chips, as its layers are made. Definitions only.
 use Prim.Native.Nat.{ℕ}
 use mathlib.Core.List.{List}
 use lib.ListN.{getD}
 use lib.Ieee.{Float, nan}
-use Rattle.amounts.specs.Filled.{filled}
+use Rattle.commons.specs.Filled.{filled}
 use Rattle.table.specs.declared.GameState.{GameState}
 use Rattle.chips.specs.Whole.{chipsIn}
 use Rattle.layers.specs.declared.Hand.{Hand}
@@ -15,7 +15,7 @@ chipsAt l i = chipsIn (getD l i nan)
 unfoldable pub countedOf : List Float → List ℕ
 countedOf l = filled 16 nothing (chipsAt l)
 
--- "odd chips go one each to winners from seat 0 upward"
+-- R11.9: odd chips are given out from this seat on
 unfoldable pub firstOf : GameState → ℕ
 firstOf t = 0
 

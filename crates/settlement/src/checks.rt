@@ -1,20 +1,6 @@
 // What a settlement tests, on plain values.
 ghost use mathlib.Core.Path.{_≡_};
-ghost use Rattle.settlement.specs.Settlement.{giveIf, anyWon, inChips};
-use crate::SettleAnswer;
-use refusals::AddedError;
-use refusals::Refusal;
-
-// The refusal if the test holds, else what follows.
-pub fn give_if(test: bool, e: AddedError, rest: SettleAnswer) -> SettleAnswer
-    ensures { λ a. ⌜ a ≡ giveIf test e rest ⌝ }
-{
-    if test {
-        SettleAnswer::NotPaid(Refusal::Added(e))
-    } else {
-        rest
-    }
-}
+ghost use Rattle.settlement.specs.Settlement.{anyWon, inChips};
 
 // Of the first n places; there is none from 16 on, and what is not there is not 0.
 pub fn any_won(winnings: [f32; 16], n: usize) -> bool

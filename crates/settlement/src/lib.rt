@@ -2,22 +2,20 @@
 ghost use mathlib.Core.Path.{_≡_};
 ghost use Prim.Native.Nat.{_≤_};
 ghost use Rattle.settlement.specs.Hand.{handOf};
-ghost use Rattle.settlement.specs.Settlement.{verdictOf, paidOut, settledOf};
+ghost use Rattle.settlement.specs.Settlement.{settleRows, paidOut, settledOf};
+ghost use Rattle.refusals.specs.Rows.{judge};
 use layers::Hand;
 use refusals::AddedError;
 use refusals::Refusal;
+use refusals::Verdict;
+use refusals::give_if;
 use table::GameState;
 
 mod checks;
 mod paying;
 
-pub enum SettleAnswer {
-    Paid,
-    NotPaid(Refusal),
-}
-
 pub struct Settled {
-    pub answer: SettleAnswer,
+    pub answer: Verdict,
     pub table: GameState,
     pub rewards: [i32; 16],
 }
@@ -39,8 +37,8 @@ fn hand_of(table: GameState, ranks: [u16; 16]) -> Hand
 }
 
 // The refusals, the last one first: each stands before those made above it.
-fn verdict(table: GameState, someone: bool) -> SettleAnswer
-    ensures { λ r. ⌜ r ≡ verdictOf table someone ⌝ }
+fn verdict(table: GameState, someone: bool) -> Verdict
+    ensures { λ r. ⌜ r ≡ judge (settleRows table someone) ⌝ }
 {
     let n = table.num_players;
     let stacks = table.stacks;
@@ -49,13 +47,21 @@ fn verdict(table: GameState, someone: bool) -> SettleAnswer
     let winnings = table.player_winnings;
     let whole = checks::in_chips(n, stacks, bets, starting, table.total_pot);
     let paid = checks::any_won(winnings, n);
-    let v22 = checks::give_if(!someone, AddedError::NobodyLeft, SettleAnswer::Paid);
-    let v23 = checks::give_if(!whole, AddedError::NotWholeChips, v22);
-    let v24 = checks::give_if(paid, AddedError::AlreadyPaid, v23);
-    checks::give_if(!table.is_sound(), AddedError::BadRecord, v24)
+    let v22 = give_if(
+        !someone,
+        Refusal::Added(AddedError::NobodyLeft),
+        Verdict::Stands,
+    );
+    let v23 = give_if(!whole, Refusal::Added(AddedError::NotWholeChips), v22);
+    let v24 = give_if(paid, Refusal::Added(AddedError::AlreadyPaid), v23);
+    give_if(
+        !table.is_sound(),
+        Refusal::Added(AddedError::BadRecord),
+        v24,
+    )
 }
 
-// Each award goes to stack and winnings, and the rewards are told of the stacks with them.
+// The awards go into the stacks and the winnings, and the rewards are told of the stacks with them.
 fn paid_out(table: GameState, awards: [u32; 16]) -> Settled
     requires { ⌜ table .«num_players» ≤ 16 ⌝ }
     ensures { λ r. ⌜ r ≡ paidOut table awards ⌝ }
@@ -71,7 +77,7 @@ fn paid_out(table: GameState, awards: [u32; 16]) -> Settled
     t.stacks = more;
     t.player_winnings = won;
     Settled {
-        answer: SettleAnswer::Paid,
+        answer: Verdict::Stands,
         table: t,
         rewards,
     }
@@ -84,9 +90,9 @@ pub fn settle(table: GameState, ranks: [u16; 16]) -> Settled
     let h = hand_of(table, ranks);
     // where 22 is looked at, a hand is payable exactly if somebody contends
     match verdict(table, layers::is_payable(h)) {
-        SettleAnswer::Paid => paid_out(table, layers::awards(h)),
-        SettleAnswer::NotPaid(r) => Settled {
-            answer: SettleAnswer::NotPaid(r),
+        Verdict::Stands => paid_out(table, layers::awards(h)),
+        Verdict::Refused(r) => Settled {
+            answer: Verdict::Refused(r),
             table,
             rewards: [0; 16],
         },

@@ -1,69 +1,94 @@
--- The bet on a record, case by case; and the record that a payment makes field by field is the definition's. Assumes nothing.
+-- The verdict on a bet and the bet on a record, case by case. Assumes nothing.
+use mathlib.Core.Path.{_≡_, refl, sym, ap, _∙_}
 use Prim.Native.Nat.{ℕ}
-use mathlib.Core.Path.{_≡_, sym, ap}
-use mathlib.Core.Bool.{Bool, true, false, not}
-use lib.ListN.{getD, set}
-use lib.Ieee.{Float, nan, binary32, add, lt}
-use Rattle.floats.specs.Helpers.{nearZero}
+use native.Mathlib.Omega.{arith}
+use mathlib.Core.Bool.{Bool, true, false}
+use mathlib.Core.List.{[], _∷_}
+use lib.Ieee.{Float}
 use Rattle.refusals.specs.declared.Refusal.{Refusal}
 use Rattle.refusals.specs.declared.Refusal.the-variants.{Added}
 use Rattle.refusals.specs.declared.AddedError.the-variants.{BadRecord, CounterFull}
-use Rattle.seats.specs.Bits.{withIf, withoutIf}
+use Rattle.refusals.specs.declared.Verdict.{Verdict}
+use Rattle.refusals.specs.declared.Verdict.the-variants.{Stands, Refused as No}
+use Rattle.refusals.specs.Rows.{row, judge, answer}
+use Rattle.refusals.proofs.Rows.{judge-joined, then-answer}
 use Rattle.bets.specs.declared.BetSize.{BetSize}
 use Rattle.bets.specs.declared.BetSize.the-variants.{Pays, Refused}
-use Rattle.rounds.specs.declared.RoundData.{RoundData}
-use Rattle.rounds.specs.declared.walking.Reached.{Reached}
-use Rattle.rounds.specs.Paying.{counterFull}
-use Rattle.rounds.specs.Steps.{newBet, paysOf}
-use Rattle.rounds.specs.Walk.{walkOf}
-use Rattle.rounds.specs.With.{withTurn}
+use Rattle.bets.specs.Bet.{sizeRows, sizeFor}
+use Rattle.rounds.specs.declared.paying.Payer.{Payer}
+use Rattle.rounds.specs.declared.paying.Stake.{Stake}
+use Rattle.rounds.specs.Paying.{isFull}
 use Rattle.table.specs.declared.GameState.{GameState}
-use Rattle.table.specs.Answers.{notPaid, paid}
-use Rattle.table.specs.Pay.{actor, leftOf, owingAfter, paidStep, roomFor, judged, verdictOf, betOf}
+use Rattle.table.specs.Answers.{notPaid}
+use Rattle.table.specs.Pay.{facedBy, paysOf, fullRow, payerIn, paidStep, verdictRows, roomFor, verdictOf, betOf}
 use Rattle.table.specs.Sound.{soundOf}
-use Rattle.table.specs.With.{withPayment}
 
-pub turned : (b c : Bool) → not b ≡ c → b ≡ not c
-turned true c h = ap not h
-turned false c h = ap not h
+-- ---- a size that a verdict gives: it pays where the verdict stands, and else tells its refusal
+module _ (x : Float) where
+  stands : (v : Verdict) (y : Float) → answer (Pays x) Refused v ≡ Pays y → (v ≡ Stands) × (x ≡ y)
+  stands Stands y e = (refl, cc)
+  stands (No r) y e = absurd (let z : _≡_ {A = ℕ} 0 1 = cc in omega arith)
 
--- ok is what the soundness test gave, size what the amount came to
+  falls : (v : Verdict) (r : Refusal) → answer (Pays x) Refused v ≡ Refused r → v ≡ No r
+  falls Stands r e = absurd (let z : _≡_ {A = ℕ} 0 1 = cc in omega arith)
+  falls (No s) r e = cc
+
+-- ---- what is left of a size once the counters are looked at
+module _ (s : Stake) (forced : Bool) (size : BetSize) where
+  pub room-refused : (r : Refusal) → size ≡ Refused r → Refused r ≡ roomFor s forced size
+  room-refused r e = λ i. roomFor s forced (sym e i)
+
+  module _ (x : Float) (e : size ≡ Pays x) (f : Bool) (counted : f ≡ isFull s x forced) where
+    by-counters : (g : Bool) → f ≡ g → answer (Pays x) Refused (judge (row g (Added CounterFull) ∷ [])) ≡ roomFor s forced size
+    by-counters g h = (λ i. answer (Pays x) Refused (judge (row ((sym h ∙ counted) i) (Added CounterFull) ∷ []))) ∙ λ i. roomFor s forced (sym e i)
+
+    pub room-full : f ≡ true → Refused (Added CounterFull) ≡ roomFor s forced size
+    room-full h = by-counters true h
+
+    pub room-left : f ≡ false → Pays x ≡ roomFor s forced size
+    room-left h = by-counters false h
+
+-- ---- the verdict: the counters' row comes after those of the size
+module _ (p : Payer) (a : Float) (forced : Bool) where
+  abbrev pays : Float
+  pays = paysOf p a forced
+
+  abbrev by-size : Verdict
+  by-size = judge (sizeRows forced a (facedBy p))
+
+  joined : (v : Verdict) → by-size ≡ v → answer (Pays pays) Refused (answer (judge (fullRow p a forced ∷ [])) No v) ≡ verdictOf p a forced
+  unfolding verdictOf
+  joined v e = sym (ap (answer (Pays pays) Refused) (judge-joined (sizeRows forced a (facedBy p)) (fullRow p a forced ∷ []) ∙ then-answer (sizeRows forced a (facedBy p)) (judge (fullRow p a forced ∷ [])) ∙ ap (answer (judge (fullRow p a forced ∷ [])) No) e))
+
+  by-verdict : (v : Verdict) → by-size ≡ v → roomFor (p .stake) forced (answer (Pays pays) Refused v) ≡ verdictOf p a forced
+  by-verdict Stands e = joined Stands e
+  by-verdict (No r) e = joined (No r) e
+
+  pub verdict-room : (size : BetSize) → size ≡ sizeFor forced a (facedBy p) → roomFor (p .stake) forced size ≡ verdictOf p a forced
+  unfolding sizeFor
+  verdict-room size told = ap (roomFor (p .stake) forced) told ∙ by-verdict by-size refl
+
+-- ---- the bet: ok is what the soundness test gave, size what the verdict came to
 module _ (t : GameState) (a : Float) (forced ok : Bool) (test : ok ≡ soundOf t) where
   pub bet-bad : ok ≡ false → notPaid (Added BadRecord) t ≡ betOf t a forced
   unfolding betOf
   bet-bad h = rw (sym test, h)
 
-  module _ (h : ok ≡ true) (size : BetSize) (told : size ≡ verdictOf t a forced) where
+  module _ (h : ok ≡ true) (size : BetSize) (told : size ≡ verdictOf (payerIn t) a forced) where
+    abbrev verdict : Verdict
+    verdict = judge (verdictRows (payerIn t) a forced)
+
+    abbrev due : Float
+    due = paysOf (payerIn t) a forced
+
+    on : (v : Verdict) → verdict ≡ v → answer (paidStep t due forced) (λ r. notPaid r t) v ≡ betOf t a forced
+    unfolding betOf
+    on v e = rw (sym test, h, e)
+
     pub bet-refused : (r : Refusal) → size ≡ Refused r → notPaid r t ≡ betOf t a forced
-    unfolding betOf judged
-    bet-refused r v = rw (sym test, h, sym told, v)
+    unfolding verdictOf
+    bet-refused r e = on (No r) (falls due verdict r (sym told ∙ e))
 
     pub bet-paid : (x : Float) → size ≡ Pays x → paidStep t x forced ≡ betOf t a forced
-    unfolding betOf judged
-    bet-paid x v = rw (sym test, h, sym told, v)
-
--- an amount that pays stands if no counter that it raises is full
-module _ (total raise force : ℕ) (forced : Bool) (b p x : Float) (size : BetSize) (pays : size ≡ Pays x) (full : Bool) (counted : full ≡ counterFull total raise force forced b (add binary32 p x)) where
-  pub no-room : full ≡ true → Refused (Added CounterFull) ≡ roomFor total raise force forced b p size
-  unfolding roomFor
-  no-room h = rw (pays, sym counted, h)
-
-  pub has-room : full ≡ false → Pays x ≡ roomFor total raise force forced b p size
-  unfolding roomFor
-  has-room h = rw (pays, sym counted, h)
-
--- what the code makes of its callees' results is what the definition says of them
-pub made : (t : GameState) (x : Float) (forced out : Bool) (b : Float) (owed active allIn : ℕ) (w : Reached) (d : RoundData)
-    → b ≡ newBet (t .«round_data») x
-    → out ≡ nearZero (leftOf t x)
-    → owed ≡ owingAfter (lt (t .«round_data» .bet) b) forced out (t .«round_data» .«needs_action» .set) (t .«player_active» .set) (actor t)
-    → w ≡ walkOf owed (t .«round_data» .«player_bet_len») (actor t)
-    → d ≡ withTurn (paysOf (t .«round_data») x forced) owed (w .seat)
-    → active ≡ withoutIf out (t .«player_active» .set) (actor t)
-    → allIn ≡ withIf out (t .«player_all_in» .set) (actor t)
-    → paid x (w .passed)
-    (withPayment t active allIn (add binary32 (t .«total_pot») x) (set (t .stacks) (actor t) (leftOf t x))
-    (set (t .«player_bet») (actor t) (add binary32 (getD (t .«player_bet») (actor t) nan) x))
-    d)
-    ≡ paidStep t x forced
-made t x forced out b owed active allIn w d e1 e2 e3 e4 e5 e6 e7 = rw (e7, e6, e5, e4, e3, e2, e1)
+    unfolding verdictOf
+    bet-paid x e = let w = stands due verdict x (sym told ∙ e) in (λ i. paidStep t (sym (w .1) i) forced) ∙ on Stands (w .0)

@@ -1,8 +1,8 @@
--- "Places at or above n .. no step writes them": after any step, refused or not, each list has there what it had. Assumes nothing.
+-- R13.8: after any step, refused or not, each list has from n on what it had. Assumes nothing.
 use Prim.Native.Nat.{ℕ, _<_, _≤_, min}
 use native.Mathlib.Omega.{arith}
 use mathlib.Core.Path.{_≡_, refl}
-use mathlib.Core.Bool.{Bool, true, false, cond}
+use mathlib.Core.Bool.{Bool, true, false, not}
 use mathlib.Core.List.{List}
 use lib.Dec.{ltb}
 use borrow.Author.Tests.{ltb-true}
@@ -10,22 +10,25 @@ use lib.ListN.{getD, set}
 use lib.Seq.{getD-set-other}
 use lib.Ieee.{Float, nan, inf, binary32, add}
 use Rattle.floats.specs.Helpers.{zerof}
-use Rattle.amounts.proofs.Filled.{filled-out}
-use Rattle.bets.specs.declared.BetSize.{BetSize}
-use Rattle.bets.specs.declared.BetSize.the-variants.{Pays, Refused}
+use Rattle.commons.proofs.Filled.{filled-out}
+use Rattle.commons.proofs.Bools.{pick, turned}
+use Rattle.refusals.specs.declared.Verdict.the-variants.{Stands}
+use Rattle.refusals.specs.Rows.{Row, judge}
+use Rattle.refusals.proofs.Rows.{answer-of, fails-at}
 use Rattle.rounds.specs.declared.Round.{Round}
-use Rattle.rounds.specs.Steps.{after}
+use Rattle.rounds.specs.Paying.{leftOf, newRoundBet}
+use Rattle.rounds.specs.Steps.{stakeIn}
 use Rattle.table.specs.declared.GameState.{GameState}
 use Rattle.table.specs.declared.AgentAction.{AgentAction}
 use Rattle.table.specs.declared.AgentAction.the-variants.{Fold, Call, Bet, AllIn}
 use Rattle.table.specs.declared.BetStep.{BetStep}
 use Rattle.table.specs.declared.TableStep.{TableStep}
+use Rattle.table.specs.Answers.{done, stepBy, soundRows}
 use Rattle.table.specs.Choice.{choiceOf}
-use Rattle.table.specs.Pay.{actor, leftOf, tablePaid, judged, verdictOf, betOf, foldedStep, foldOf, awarded, awardOf}
+use Rattle.table.specs.Pay.{actor, payerIn, paysOf, tablePaid, betRows, betOf, foldedStep, foldOf, awarded, seatRows, awardOf}
 use Rattle.table.specs.Rounds.{advanceOf, completeOf, isRound, freshData, advancedStep, completedStep}
 use Rattle.table.specs.Sound.{soundOf}
 use Rattle.table.specs.With.{withRound}
-use Rattle.table.proofs.LawsBack.{pick}
 use Rattle.table.proofs.Sound.{sound}
 
 -- two lists agree from place n on
@@ -50,11 +53,11 @@ below-n l i n x h j k = getD-set-other l i j x nan (λ e. omega arith)
 module _ (t : GameState) where
   paid-kept : (x : Float) (forced : Bool) → actor t < t .«num_players» → Kept t (tablePaid t x forced)
   paid-kept x forced h = record {
-    stacks = below-n (t .stacks) (actor t) (t .«num_players») (leftOf t x) h;
+    stacks = below-n (t .stacks) (actor t) (t .«num_players») (leftOf (payerIn t) x) h;
     starting = λ j k. refl;
-    bets = below-n (t .«player_bet») (actor t) (t .«num_players») (add binary32 (getD (t .«player_bet») (actor t) nan) x) h;
+    bets = below-n (t .«player_bet») (actor t) (t .«num_players») (add binary32 (payerIn t .«hand_bet») x) h;
     winnings = λ j k. refl;
-    round = below-n (t .«round_data» .«player_bet») (actor t) (t .«num_players») (after (t .«round_data») x) h;
+    round = below-n (t .«round_data» .«player_bet») (actor t) (t .«num_players») (newRoundBet (stakeIn (t .«round_data»)) x) h;
   }
 
   fold-kept : Kept t (foldedStep t .table)
@@ -78,46 +81,48 @@ module _ (t : GameState) where
     round = λ j h. filled-out (t .«round_data» .«player_bet») (λ i. zerof) (min (t .«num_players») 16) j nan (omega arith);
   }
 
-abbrev BetKept : GameState → BetStep → Type 0
-BetKept t s = Kept t (s .table)
+-- ---- the steps, accepted or refused; where one stands, its record is sound
+module _ (t : GameState) where
+  abbrev BetKept : BetStep → Type 0
+  BetKept s = Kept t (s .table)
 
-abbrev StepKept : GameState → TableStep → Type 0
-StepKept t s = Kept t (s .table)
+  abbrev StepKept : TableStep → Type 0
+  StepKept s = Kept t (s .table)
 
-judged-kept : (t : GameState) (forced : Bool) (v : BetSize) → actor t < t .«num_players» → Kept t (judged t forced v .table)
-unfolding judged
-judged-kept t forced (Refused r) h = untouched t
-judged-kept t forced (Pays x) h = paid-kept t x forced h
+  -- the first row is the record's
+  is-sound : (b : Bool) → not b ≡ false → b ≡ true
+  is-sound b e = turned b false e
 
--- a test and what holds where it does
-tested : (b : Bool) {A : Type 0} (P : A → Type 0) (x y : A) → (b ≡ true → P x) → P y → P (cond b x y)
-tested true P x y p q = p refl
-tested false P x y p q = q
+  step-kept : (rows : List Row) (s : TableStep) → (judge rows ≡ Stands → StepKept s) → StepKept (stepBy rows t s)
+  step-kept rows s k = answer-of s _ StepKept (judge rows) k (λ r. untouched t)
 
-pub bet-kept : (t : GameState) (a : Float) (forced : Bool) → Kept t (betOf t a forced .table)
-unfolding betOf
-bet-kept t a forced = tested (soundOf t) (BetKept t) _ _ (λ e. judged-kept t forced (verdictOf t a forced) (sound t e .acts)) (untouched t)
+  pub bet-kept : (a : Float) (forced : Bool) → Kept t (betOf t a forced .table)
+  unfolding betOf
+  bet-kept a forced =
+      answer-of _ _ BetKept (judge (betRows t a forced))
+      (λ e. paid-kept t (paysOf (payerIn t) a forced) forced (sound t (is-sound (soundOf t) (fails-at (betRows t a forced) e 0)) .acts)) (λ r. untouched t)
 
-pub folded-kept : (t : GameState) → Kept t (foldOf t .table)
-unfolding foldOf
-folded-kept t = pick (StepKept t) (soundOf t) _ _ (fold-kept t) (untouched t)
+  pub folded-kept : Kept t (foldOf t .table)
+  unfolding foldOf
+  folded-kept = step-kept (soundRows t) (foldedStep t) (λ e. fold-kept t)
 
-pub awarded-kept : (t : GameState) (i : ℕ) (x : Float) → Kept t (awardOf t i x .table)
-unfolding awardOf
-awarded-kept t i x =
-    pick (StepKept t) (soundOf t) _ _ (tested (ltb i (t .«num_players»)) (StepKept t) _ _ (λ e. award-kept t i x (ltb-true i (t .«num_players») e)) (untouched t)) (untouched t)
+  pub awarded-kept : (i : ℕ) (x : Float) → Kept t (awardOf t i x .table)
+  unfolding awardOf
+  awarded-kept i x =
+      step-kept (seatRows t i) (done 0 (awarded t i x))
+      (λ e. award-kept t i x (ltb-true i (t .«num_players») (is-sound (ltb i (t .«num_players»)) (fails-at (seatRows t i) e 1))))
 
-pub advanced-kept : (t : GameState) → Kept t (advanceOf t .table)
-unfolding advanceOf
-advanced-kept t = pick (StepKept t) (soundOf t) _ _ (pick (StepKept t) (isRound (t .round) 11) _ _ (untouched t) (round-kept t _ _ _ _)) (untouched t)
+  pub advanced-kept : Kept t (advanceOf t .table)
+  unfolding advanceOf
+  advanced-kept = step-kept (soundRows t) _ (λ e. pick StepKept (isRound (t .round) 11) (done 0 t) (advancedStep t) (untouched t) (round-kept t _ _ _ _))
 
-pub completed-kept : (t : GameState) → Kept t (completeOf t .table)
-unfolding completeOf
-completed-kept t = pick (StepKept t) (soundOf t) _ _ (pick (StepKept t) (isRound (t .round) 11) _ _ (untouched t) (round-kept t _ _ _ _)) (untouched t)
+  pub completed-kept : Kept t (completeOf t .table)
+  unfolding completeOf
+  completed-kept = step-kept (soundRows t) _ (λ e. pick StepKept (isRound (t .round) 11) (done 0 t) (completedStep t) (untouched t) (round-kept t _ _ _ _))
 
-pub choice-kept : (t : GameState) (c : AgentAction) → Kept t (choiceOf t c .table)
-unfolding choiceOf
-choice-kept t Fold = folded-kept t
-choice-kept t Call = bet-kept t (t .«round_data» .bet) false
-choice-kept t (Bet a) = bet-kept t a false
-choice-kept t AllIn = bet-kept t (inf false) false
+  pub choice-kept : (c : AgentAction) → Kept t (choiceOf t c .table)
+  unfolding choiceOf
+  choice-kept Fold = folded-kept
+  choice-kept Call = bet-kept (t .«round_data» .bet) false
+  choice-kept (Bet a) = bet-kept a false
+  choice-kept AllIn = bet-kept (inf false) false

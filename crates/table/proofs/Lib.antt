@@ -1,8 +1,8 @@
 pub mod Bet
 pub mod Hands
-pub mod LawsBack
-pub mod LawsOrder
+pub mod LawsOpening
 pub mod LawsPlaces
+pub mod LawsRows
 pub mod LawsSound
 pub mod Promises
 pub mod Sound

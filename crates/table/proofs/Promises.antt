@@ -1,6 +1,6 @@
 -- Any pair of results that the `ensures` of a public function allows is equal, each by the one law `same`. The checker writes `ended`, the function's
 -- signature, and `Learnt`, what a caller learns from its `ensures`. `.ci/functions --check` asks a line for each public function. Assumes nothing.
-use Rattle.refusals.proofs.OneResult.{OneResult, same, only}
+use Rattle.commons.proofs.OneResult.{OneResult, same, only}
 use Rattle.table.proofs as crate
 
 -- ---- src/lib.rt
@@ -67,16 +67,24 @@ current-round-num-active-players κs a x y = only same
 pub current-round-min-raise : OneResult crate.GameState.current_round_min_raise.ended crate.GameState.current_round_min_raise.Reads.Learnt
 current-round-min-raise κs a x y = only same
 
--- ---- src/parts.rt
-pub owing-after : OneResult crate.parts.owing_after.ended crate.parts.owing_after.Reads.Learnt
-owing-after κs a x y = only same
+-- ---- src/added.rt
+pub added-is-good : OneResult crate.added.Added.is_good.ended crate.added.Added.is_good.Reads.Learnt
+added-is-good κs a x y = only same
 
-pub first-turn : OneResult crate.parts.first_turn.ended crate.parts.first_turn.Reads.Learnt
-first-turn κs a x y = only same
-
-pub room-for : OneResult crate.parts.room_for.ended crate.parts.room_for.Reads.Learnt
-room-for κs a x y = only same
+-- ---- src/betting.rt
+pub betting-room-for : OneResult crate.betting.room_for.ended crate.betting.room_for.Reads.Learnt
+betting-room-for κs a x y = only same
 
 -- ---- src/soundness.rt
-pub soundness-is-sound : OneResult crate.soundness.is_sound.ended crate.soundness.is_sound.Reads.Learnt
-soundness-is-sound κs a x y = only same
+pub frame-is-sound : OneResult crate.soundness.Frame.is_sound.ended crate.soundness.Frame.is_sound.Reads.Learnt
+frame-is-sound κs a x y = only same
+
+-- ---- src/answers.rt
+pub bet-answer-number : OneResult crate.BetAnswer.number.ended crate.BetAnswer.number.Reads.Learnt
+bet-answer-number κs a x y = only same
+
+pub bet-answer-paid : OneResult crate.BetAnswer.paid.ended crate.BetAnswer.paid.Reads.Learnt
+bet-answer-paid κs a x y = only same
+
+pub bet-answer-passed : OneResult crate.BetAnswer.passed.ended crate.BetAnswer.passed.Reads.Learnt
+bet-answer-passed κs a x y = only same

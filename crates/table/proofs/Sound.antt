@@ -4,12 +4,12 @@ use native.Mathlib.Omega.{arith}
 use mathlib.Core.Path.{_≡_, refl, sym, _∙_}
 use mathlib.Core.Bool.{Bool, true, false, _&&_}
 use mathlib.Core.List.{List}
-use lib.Dec.{T, leb→le, ltb→lt, eqb→eq}
 use lib.ListN.{getD}
-use borrow.Author.Tests.{lt-ltb, le-ltb, le-leb}
-use Rattle.refusals.proofs.Tests.{each}
+use borrow.Author.Tests.{lt-ltb, le-ltb, le-leb, leb-true, ltb-true, eqb-true}
+use Rattle.commons.proofs.Tests.{test-at}
 use Rattle.table.specs.declared.GameState.{GameState}
-use Rattle.table.specs.Sound.{cardsOk, boardOk, soundTests, soundParts, soundOf}
+use Rattle.table.specs.Added.{goodAdded}
+use Rattle.table.specs.Sound.{cardsOk, boardOk, frameTests, soundFrame, frameOf, soundOf}
 
 -- ---- the cards, one at a time from the last down
 before : (j : ℕ) → suc j - 1 ≡ j
@@ -34,10 +34,6 @@ unfolding cardsOk
 no-cards zero b h = refl
 no-cards (suc k) b h = absurd (omega arith)
 
-holds : (b : Bool) → T b → b ≡ true
-holds true t = refl
-holds false t = absurd t
-
 -- ---- the record
 pub record Sound (t : GameState) : Type 0 where
   pub two : 2 ≤ t .«num_players»
@@ -51,27 +47,27 @@ pub record Sound (t : GameState) : Type 0 where
   pub owing : t .«round_data» .«needs_action» .set < 2 ^ t .«num_players»
   pub start : t .«round_data» .«starting_player_active» .set < 2 ^ t .«num_players»
   pub cards : boardOk (t .«board_len») (t .board) ≡ true
+  pub added : goodAdded (t .added) ≡ true
 
 pub sound : (t : GameState) → soundOf t ≡ true → Sound t
-unfolding soundParts
+unfolding soundFrame
 sound t p =
-    let d = t .«round_data» in
-    let s = each (soundTests (t .«num_players») (d .«player_bet_len») (t .«dealer_idx») (d .«to_act_idx») (t .«player_active» .set) (t .«player_all_in» .set) (d .«needs_action» .set) (d .«starting_player_active» .set) (t .«board_len») (t .board)) p in
-    let most : t .«num_players» ≤ 16 = leb→le _ _ (s .1 .0) in
-    let acts : t .«round_data» .«to_act_idx» < t .«num_players» = ltb→lt _ _ (s .1 .1 .1 .1 .0) in
-    let sets = s .1 .1 .1 .1 .1 in
+    let at = test-at (frameTests (frameOf t)) p in
+    let most : t .«num_players» ≤ 16 = leb-true _ _ (at 1) in
+    let acts : t .«round_data» .«to_act_idx» < t .«num_players» = ltb-true _ _ (at 4) in
     record {
-      two = leb→le _ _ (s .0);
+      two = leb-true _ _ (at 0);
       most = most;
-      same = eqb→eq _ _ (s .1 .1 .0);
-      deals = ltb→lt _ _ (s .1 .1 .1 .0);
+      same = eqb-true _ _ (at 2);
+      deals = ltb-true _ _ (at 3);
       acts = acts;
       place = omega arith;
-      active = ltb→lt _ _ (sets .0);
-      all-in = ltb→lt _ _ (sets .1 .0);
-      owing = ltb→lt _ _ (sets .1 .1 .0);
-      start = ltb→lt _ _ (sets .1 .1 .1 .0);
-      cards = holds _ (sets .1 .1 .1 .1);
+      active = ltb-true _ _ (at 5);
+      all-in = ltb-true _ _ (at 6);
+      owing = ltb-true _ _ (at 7);
+      start = ltb-true _ _ (at 8);
+      cards = at 9;
+      added = at 10;
     }
 
 -- the same of a test that code has made and passed

@@ -1,4 +1,4 @@
--- Document 01, "Choice (added): Call bets B, AllIn plus infinity." Definitions only.
+-- R9.3: a player's choice, as the fold or the bet that it stands for. Definitions only.
 use mathlib.Core.Bool.{false}
 use lib.Ieee.{inf}
 use Rattle.floats.specs.Helpers.{zerof}

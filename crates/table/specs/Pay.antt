@@ -1,116 +1,119 @@
--- Document 01, "Paying x", "Fold", "Award": the bet, the fold and the award on a record. Definitions only.
+-- Sections 6 to 9: the bet, the payment, the fold, the award and the reward on a record. Definitions only.
 use Prim.Native.Nat.{ℕ}
-use mathlib.Core.Bool.{Bool, true, false, cond, not}
+use mathlib.Core.Bool.{Bool, not}
+use mathlib.Core.List.{List, [], _∷_, _++_}
 use lib.Dec.{ltb}
 use lib.ListN.{getD, set}
-use lib.Ieee.{Float, nan, binary32, add, sub, lt}
-use Rattle.floats.specs.Helpers.{nearZero}
+use lib.Ieee.{Float, nan, binary32, add, sub}
 use Rattle.refusals.specs.declared.Refusal.the-variants.{Added}
-use Rattle.refusals.specs.declared.AddedError.the-variants.{BadRecord, BadSeat, CounterFull}
-use Rattle.seats.specs.Bits.{without, withIf, withoutIf}
+use Rattle.refusals.specs.declared.AddedError.the-variants.{BadSeat, CounterFull}
+use Rattle.refusals.specs.Rows.{Row, row, judge, answer}
+use Rattle.seats.specs.Bits.{without}
+use Rattle.bets.specs.declared.Facing.{Facing}
 use Rattle.bets.specs.declared.BetSize.{BetSize}
 use Rattle.bets.specs.declared.BetSize.the-variants.{Pays, Refused}
-use Rattle.bets.specs.Bet.{sizeFor}
+use Rattle.bets.specs.Bet.{facing, sizeRows, paysFor}
 use Rattle.rounds.specs.declared.AmountAnswer.{AmountAnswer}
 use Rattle.rounds.specs.declared.AmountAnswer.the-variants.{Is, Unknown}
+use Rattle.rounds.specs.declared.paying.Payer.{Payer}
+use Rattle.rounds.specs.declared.paying.Stake.{Stake}
 use Rattle.rounds.specs.declared.walking.Reached.{Reached}
-use Rattle.rounds.specs.Paying.{counterFull}
-use Rattle.rounds.specs.Steps.{putIn, newBet, paysOf}
+use Rattle.rounds.specs.Paying.{payerOf, payOf, seated, isFull}
+use Rattle.rounds.specs.Steps.{stakeIn, withStake}
 use Rattle.rounds.specs.Walk.{walkOf}
 use Rattle.rounds.specs.With.{withTurn}
 use Rattle.table.specs.declared.GameState.{GameState}
 use Rattle.table.specs.declared.BetStep.{BetStep}
 use Rattle.table.specs.declared.TableStep.{TableStep}
-use Rattle.table.specs.Answers.{done, refused, paid, notPaid}
-use Rattle.table.specs.Sound.{soundOf}
+use Rattle.table.specs.Answers.{done, stepBy, badRecord, soundRows, paid, notPaid}
 use Rattle.table.specs.With.{withPayment, withFold, withAward}
 
--- the seat to act, and its stack
+-- ---- R7.1: the seat to act, as one that pays
 abbrev pub actor : GameState → ℕ
 actor t = t .«round_data» .«to_act_idx»
 
 abbrev pub stackOf : GameState → Float
 stackOf t = getD (t .stacks) (actor t) nan
 
--- what it has left after it pays x
-abbrev pub leftOf : GameState → Float → Float
-leftOf t x = sub binary32 (stackOf t) x
+abbrev pub payerIn : GameState → Payer
+payerIn t =
+    payerOf (stakeIn (t .«round_data»)) (stackOf t) (getD (t .«player_bet») (actor t) nan) (t .«total_pot») (t .«player_active» .set) (t .«player_all_in» .set)
+    (t .«round_data» .«needs_action» .set) (actor t)
 
--- "If B rose, exactly the active seats owe. A voluntary payer then owes nothing. If |stack| is at most EPSILON the seat leaves .. owing"
-unfoldable pub owingAfter : Bool → Bool → Bool → ℕ → ℕ → ℕ → ℕ
-owingAfter rose forced out owed active i = withoutIf out (withoutIf (not forced) (cond rose active owed) i) i
+-- R7.1: the record with what became of it
+abbrev pub withPayer : GameState → Payer → GameState
+withPayer t p =
+    withPayment t (p .active) (p .«all_in») (p .pot) (set (t .stacks) (actor t) (p .stack)) (set (t .«player_bet») (actor t) (p .«hand_bet»))
+    (withTurn (withStake (t .«round_data») (p .stake)) (p .owing) (p .seat))
 
-abbrev pub owedAfter : GameState → Float → Bool → ℕ
-owedAfter t x forced =
-    let d = t .«round_data» in
-    owingAfter (lt (d .bet) (newBet d x)) forced (nearZero (leftOf t x)) (d .«needs_action» .set) (t .«player_active» .set) (actor t)
-
--- the walk with which a step of the seat to act ends, the owing seats being these
+-- R7.9: every step of the seat to act ends with the walk from it, among those who then owe
 abbrev pub turnAfter : GameState → ℕ → Reached
 turnAfter t owed = walkOf owed (t .«round_data» .«player_bet_len») (actor t)
 
--- "Take x from the stack; add it to the round bet, hand bet and pot."
+-- it pays x, and the turn passes on
+abbrev pub payerPaid : GameState → Float → Bool → Payer
+payerPaid t x forced = payOf (payerIn t) x forced
+
+abbrev pub turnPaid : GameState → Float → Bool → Reached
+turnPaid t x forced = turnAfter t (payerPaid t x forced .owing)
+
 abbrev pub tablePaid : GameState → Float → Bool → GameState
-tablePaid t x forced =
-    let i = actor t in
-    let out = nearZero (leftOf t x) in
-    let owed = owedAfter t x forced in
-    withPayment t
-    (withoutIf out (t .«player_active» .set) i)
-    (withIf out (t .«player_all_in» .set) i)
-    (add binary32 (t .«total_pot») x)
-    (set (t .stacks) i (leftOf t x))
-    (set (t .«player_bet») i (add binary32 (getD (t .«player_bet») i nan) x))
-    (withTurn (paysOf (t .«round_data») x forced) owed (turnAfter t owed .seat))
+tablePaid t x forced = withPayer t (seated (payerPaid t x forced) (turnPaid t x forced .seat))
 
 abbrev pub paidStep : GameState → Float → Bool → BetStep
-paidStep t x forced = paid x (turnAfter t (owedAfter t x forced) .passed) (tablePaid t x forced)
+paidStep t x forced = paid x (turnPaid t x forced .passed) (tablePaid t x forced)
 
--- what the seat to act pays of the amount a: 14 to 17, then 21
-abbrev pub sizeOf : GameState → Float → Bool → BetSize
-sizeOf t a forced =
-    let d = t .«round_data» in
-    sizeFor forced a (putIn d) (stackOf t) (d .bet) (d .«min_raise»)
+-- ---- R6.10: the verdict: 14 to 17, then 21
+abbrev pub facedBy : Payer → Facing
+facedBy p = facing (p .stake .«round_bet») (p .stack) (p .stake .bet) (p .stake .«min_raise»)
 
-unfoldable pub roomFor : ℕ → ℕ → ℕ → Bool → Float → Float → BetSize → BetSize
-roomFor total raise force forced b p (Refused r) = Refused r
-roomFor total raise force forced b p (Pays x) = cond (counterFull total raise force forced b (add binary32 p x)) (Refused (Added CounterFull)) (Pays x)
+abbrev pub paysOf : Payer → Float → Bool → Float
+paysOf p a forced = paysFor forced a (facedBy p)
 
-abbrev pub verdictOf : GameState → Float → Bool → BetSize
-verdictOf t a forced =
-    let d = t .«round_data» in
-    roomFor (d .«total_bet_count») (d .«total_raise_count») (d .«forced_bet_count») forced (d .bet) (putIn d) (sizeOf t a forced)
+abbrev pub fullRow : Payer → Float → Bool → Row
+fullRow p a forced = row (isFull (p .stake) (paysOf p a forced) forced) (Added CounterFull)
 
--- the step that a verdict comes to
-unfoldable pub judged : GameState → Bool → BetSize → BetStep
-judged t forced (Refused r) = notPaid r t
-judged t forced (Pays x) = paidStep t x forced
+abbrev pub verdictRows : Payer → Float → Bool → List Row
+verdictRows p a forced = sizeRows forced a (facedBy p) ++ fullRow p a forced ∷ []
+
+-- what of a size is left once the counters are looked at
+abbrev pub roomFor : Stake → Bool → BetSize → BetSize
+roomFor s forced (Refused r) = Refused r
+roomFor s forced (Pays x) = answer (Pays x) Refused (judge (row (isFull s x forced) (Added CounterFull) ∷ []))
+
+unfoldable pub verdictOf : Payer → Float → Bool → BetSize
+verdictOf p a forced = answer (Pays (paysOf p a forced)) Refused (judge (verdictRows p a forced))
+
+-- ---- R6.10: the bet: 19, and then the verdict
+abbrev pub betRows : GameState → Float → Bool → List Row
+betRows t a forced = badRecord t ∷ verdictRows (payerIn t) a forced
 
 unfoldable pub betOf : GameState → Float → Bool → BetStep
-betOf t a forced = cond (soundOf t) (judged t forced (verdictOf t a forced)) (notPaid (Added BadRecord) t)
+betOf t a forced = answer (paidStep t (paysOf (payerIn t) a forced) forced) (λ r. notPaid r t) (judge (betRows t a forced))
 
--- "The seat leaves both sets, then the walk."
+-- ---- R8.1: the fold: the seat no longer is active nor owes, and the walk follows
 abbrev pub foldedStep : GameState → TableStep
 foldedStep t =
     let owed = without (t .«round_data» .«needs_action» .set) (actor t) in
     done (turnAfter t owed .passed) (withFold t (without (t .«player_active» .set) (actor t)) (withTurn (t .«round_data») owed (turnAfter t owed .seat)))
 
 unfoldable pub foldOf : GameState → TableStep
-foldOf t = cond (soundOf t) (foldedStep t) (refused (Added BadRecord) t)
+foldOf t = stepBy (soundRows t) t (foldedStep t)
 
--- "adds to stack and winnings; the pot stays"
+-- ---- R9.1: the award, to the stack and to the winnings; the pot stays
 abbrev pub awarded : GameState → ℕ → Float → GameState
 awarded t i x =
     withAward t
     (set (t .stacks) i (add binary32 (getD (t .stacks) i nan) x))
     (set (t .«player_winnings») i (add binary32 (getD (t .«player_winnings») i nan) x))
 
-unfoldable pub awardOf : GameState → ℕ → Float → TableStep
-awardOf t i x = cond (soundOf t) (cond (ltb i (t .«num_players»)) (done 0 (awarded t i x)) (refused (Added BadSeat) t)) (refused (Added BadRecord) t)
+-- R9.1, R9.2: 19, then 20
+abbrev pub seatRows : GameState → ℕ → List Row
+seatRows t i = badRecord t ∷ row (not (ltb i (t .«num_players»))) (Added BadSeat) ∷ []
 
--- stack less starting stack
+unfoldable pub awardOf : GameState → ℕ → Float → TableStep
+awardOf t i x = stepBy (seatRows t i) t (done 0 (awarded t i x))
+
+-- ---- R9.2: the reward, the stack less the starting stack
 unfoldable pub rewardOf : GameState → ℕ → AmountAnswer
-rewardOf t i =
-    cond (soundOf t)
-    (cond (ltb i (t .«num_players»)) (Is (sub binary32 (getD (t .stacks) i nan) (getD (t .«starting_stacks») i nan))) (Unknown (Added BadSeat)))
-    (Unknown (Added BadRecord))
+rewardOf t i = answer (Is (sub binary32 (getD (t .stacks) i nan) (getD (t .«starting_stacks») i nan))) Unknown (judge (seatRows t i))

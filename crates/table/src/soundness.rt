@@ -1,6 +1,22 @@
 // Document 01's test of a record, on the parts that it looks at.
 ghost use mathlib.Core.Path.{_≡_};
-ghost use Rattle.table.specs.Sound.{soundParts, boardOk};
+ghost use Rattle.table.specs.Sound.{soundFrame, boardOk};
+use crate::added::Added;
+
+// The parts of a record that its soundness looks at.
+pub struct Frame {
+    pub seats: usize,
+    pub round_seats: usize,
+    pub dealer: usize,
+    pub to_act: usize,
+    pub active: u16,
+    pub all_in: u16,
+    pub owing: u16,
+    pub starting: u16,
+    pub cards: usize,
+    pub board: [u8; 5],
+    pub added: Added,
+}
 
 // Whether the board has at most 5 cards, each below 52; of a longer one nothing is read.
 fn board_ok(board: [u8; 5], len: usize) -> bool
@@ -19,22 +35,19 @@ fn board_ok(board: [u8; 5], len: usize) -> bool
     true
 }
 
-pub fn is_sound(
-    n: usize,
-    len: usize,
-    dealer: usize,
-    act: usize,
-    active: u16,
-    all_in: u16,
-    owing: u16,
-    start: u16,
-    cards: usize,
-    board: [u8; 5],
-) -> bool
-    ensures { λ r. ⌜ r ≡ soundParts n len dealer act active «all_in» owing start cards board ⌝ }
-{
-    let last = board_ok(board, cards);
-    let two = seats::bits::is_below(owing, n) & (seats::bits::is_below(start, n) & last);
-    let sets = seats::bits::is_below(active, n) & (seats::bits::is_below(all_in, n) & two);
-    (2 <= n) & ((n <= 16) & ((len == n) & ((dealer < n) & ((act < n) & sets))))
+impl Frame {
+    pub fn is_sound(self) -> bool
+        ensures { λ r. ⌜ r ≡ soundFrame self ⌝ }
+    {
+        let n = self.seats;
+        let board = self.board;
+        let added = self.added;
+        let last = board_ok(board, self.cards) & added.is_good();
+        let two = seats::bits::is_below(self.owing, n)
+            & (seats::bits::is_below(self.starting, n) & last);
+        let sets = seats::bits::is_below(self.active, n)
+            & (seats::bits::is_below(self.all_in, n) & two);
+        let seats = (self.round_seats == n) & ((self.dealer < n) & ((self.to_act < n) & sets));
+        (2 <= n) & ((n <= 16) & seats)
+    }
 }

@@ -6,8 +6,9 @@ use std::hint::black_box;
 use std::sync::LazyLock;
 
 use lists::carry;
-use lists::table::{Table, WORDS};
-use peatcloak::sys;
+use lists::places::{FLOATS, NUMBERS, run};
+use lists::table::Table;
+use peatcloak::{parts, sys};
 use rs_poker::arena::{GameState, GameStateBuilder};
 
 const BETS: usize = 200;
@@ -15,9 +16,6 @@ const BETS: usize = 200;
 const TABLES: u64 = 100;
 /// A clone takes longer, and there are fewer.
 const FEWER: u64 = 20;
-
-const NUMBERS: usize = 24;
-const FLOATS: usize = WORDS - NUMBERS;
 
 static START: LazyLock<GameState> = LazyLock::new(|| {
     let builder = GameStateBuilder::new().stacks([1_000_000.0; 6]).blinds(10.0, 5.0);
@@ -88,9 +86,9 @@ pub fn by_value() -> u64 {
         // SAFETY: the parts and the amounts are there, are this long and do not overlap.
         let refused = unsafe {
             let floats = words.add(NUMBERS).cast();
-            sys::peatcloak_run_bets(floats, FLOATS, words, NUMBERS, amounts.as_ptr(), BETS)
+            parts::peatcloak_run_bets(floats, FLOATS, words, NUMBERS, amounts.as_ptr(), BETS)
         };
-        assert_eq!((refused, table.get(23)), (0, BETS));
+        assert_eq!((refused, table.get(run::TAKEN)), (0, BETS));
         black_box(&table);
     }
     TABLES * BETS as u64

@@ -2,13 +2,13 @@
 
 use std::hint::black_box;
 
-use lists::table::{Table, WORDS};
+use lists::places::{AMOUNTS, FLOATS, GIVEN, NUMBERS, amount, given};
+use lists::table::Table;
 use peatcloak::sys;
 use rs_poker::arena::GameStateBuilder;
 
 const BUILDS: u64 = 4_000;
 const STACKS: [f32; 6] = [100.0, 200.0, 300.0, 400.0, 500.0, 600.0];
-const NUMBERS: usize = 24;
 
 pub fn rust() -> u64 {
     for _ in 0..BUILDS {
@@ -20,9 +20,13 @@ pub fn rust() -> u64 {
 }
 
 pub fn ours() -> u64 {
-    let amounts: [f32; 3] = [10.0, 5.0, 0.0];
-    // Stacks and both blinds, no ante, the dealer, and who that is.
-    let given: [u32; 16] = [1, 1, 1, 0, 1, 3, 0, 0, 0, 0, 0, 0, 0, 0, 0, 0];
+    let mut amounts = [0.0; AMOUNTS];
+    (amounts[amount::BIG_BLIND], amounts[amount::SMALL_BLIND]) = (10.0, 5.0);
+    let mut given = [0; GIVEN];
+    for place in [given::STACKS, given::BIG_BLIND, given::SMALL_BLIND, given::DEALER] {
+        given[place] = 1;
+    }
+    given[given::DEALER_IS] = 3;
     for _ in 0..BUILDS {
         let mut table = Table::ZEROS;
         let stacks = black_box(STACKS);
@@ -31,7 +35,7 @@ pub fn ours() -> u64 {
         let refused = unsafe {
             sys::peatcloak_build(
                 words.add(NUMBERS).cast(),
-                WORDS - NUMBERS,
+                FLOATS,
                 words,
                 NUMBERS,
                 stacks.as_ptr(),

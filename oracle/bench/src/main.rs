@@ -10,6 +10,7 @@ mod settlement;
 use std::process::{Command, ExitCode};
 
 use figures::{Figure, Measure};
+use peatcloak::library;
 
 /// Rounds through all that is measured; they take turns, so that a slow moment meets each.
 const ROUNDS: usize = 601;
@@ -22,6 +23,7 @@ const OURS: [Measure; 5] =
 
 /// `bench PLAIN`, where PLAIN is this program built plain; `bench --rust` gives the Rust's figures alone.
 fn main() -> ExitCode {
+    library::check();
     let word = std::env::args().nth(1);
     match word.as_deref() {
         Some("--rust") => {

@@ -2,11 +2,11 @@
 
 use std::hint::black_box;
 
-use lists::table::{MAX_SEATS, Table, WORDS, first_seats, place};
+use lists::places::{FLOATS, NUMBERS};
+use lists::table::{MAX_SEATS, Table, first_seats, place};
 use peatcloak::sys;
 
 const SETTLEMENTS: u64 = 1000;
-const NUMBERS: usize = 24;
 const BETS: [f32; 6] = [100.0, 40.0, 70.0, 100.0, 33.0, 100.0];
 const RANKS: [u16; MAX_SEATS] = [5, 9, 7, 5, 1, 3, 0, 0, 0, 0, 0, 0, 0, 0, 0, 0];
 
@@ -37,7 +37,7 @@ pub fn ours() -> u64 {
         let refused = unsafe {
             sys::peatcloak_settle(
                 words.add(NUMBERS).cast(),
-                WORDS - NUMBERS,
+                FLOATS,
                 words,
                 NUMBERS,
                 RANKS.as_ptr(),

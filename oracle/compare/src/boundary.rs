@@ -1,21 +1,21 @@
 //! Our side: the boundary's calls on a table's words, in place. Numbers stand before the floats there.
 
-use lists::table::{MAX_SEATS, Table, WORDS};
-use peatcloak::sys;
-
-const NUMBERS: usize = 24;
-const FLOATS: usize = WORDS - NUMBERS;
-
-/// Where a step puts what it answers.
-pub const PASSED: usize = 23;
-pub const PAID: usize = NUMBERS + 6;
+use lists::places::{AMOUNTS, FLOATS, GIVEN, NUMBERS};
+use lists::table::{MAX_SEATS, Table};
+use peatcloak::parts::peatcloak_run_bets;
+use peatcloak::sys::{
+    peatcloak_advance_round, peatcloak_award, peatcloak_build, peatcloak_complete,
+    peatcloak_do_bet, peatcloak_fold, peatcloak_player_reward, peatcloak_queries,
+    peatcloak_round_advance_action, peatcloak_round_do_bet, peatcloak_round_new,
+    peatcloak_round_new_with_bets, peatcloak_round_queries, peatcloak_settle,
+};
 
 /// A call that writes the table.
 macro_rules! call {
     ($step:ident, $table:expr $(, $more:expr)*) => {{
         let words = $table.words.as_mut_ptr();
         // SAFETY: both parts are there, are this long and do not overlap; a float may have any bits.
-        unsafe { sys::$step(words.add(NUMBERS).cast(), FLOATS, words, NUMBERS $(, $more)*) }
+        unsafe { $step(words.add(NUMBERS).cast(), FLOATS, words, NUMBERS $(, $more)*) }
     }};
 }
 
@@ -24,7 +24,7 @@ macro_rules! ask {
     ($query:ident, $table:expr $(, $more:expr)*) => {{
         let words = $table.words.as_ptr();
         // SAFETY: as for a call that writes.
-        unsafe { sys::$query(words.add(NUMBERS).cast(), FLOATS, words, NUMBERS $(, $more)*) }
+        unsafe { $query(words.add(NUMBERS).cast(), FLOATS, words, NUMBERS $(, $more)*) }
     }};
 }
 
@@ -63,8 +63,10 @@ pub struct Queries {
 
 pub fn queries(table: &Table, seat: usize) -> (u32, Queries) {
     let mut got = Queries::default();
-    let (amounts, answers) = (got.amounts.as_mut_ptr(), got.answers.as_mut_ptr());
-    let refused = ask!(peatcloak_queries, table, seat as u32, amounts, 6, answers, 7);
+    let Queries { amounts, answers } = &mut got;
+    let (told, said) = (amounts.as_mut_ptr(), answers.as_mut_ptr());
+    let (seat, amounts, answers) = (seat as u32, amounts.len(), answers.len());
+    let refused = ask!(peatcloak_queries, table, seat, told, amounts, said, answers);
     (refused, got)
 }
 
@@ -84,8 +86,8 @@ pub struct Given<'a> {
     pub stacks: &'a [f32],
     pub player_bet: &'a [f32],
     pub board: &'a [u8],
-    pub amounts: [f32; 3],
-    pub given: [u32; 16],
+    pub amounts: [f32; AMOUNTS],
+    pub given: [u32; GIVEN],
 }
 
 pub fn build(table: &mut Table, with: &Given) -> u32 {

@@ -6,6 +6,7 @@ use lists::carry;
 use lists::draw::Draw;
 use lists::faults::FAULTS;
 use lists::line::Line;
+use lists::places::{AMOUNTS, GIVEN, amount, given};
 use lists::table::{MAX_SEATS, Table, place};
 
 use crate::boundary::{self, Given};
@@ -46,34 +47,44 @@ fn before(builder: &Builder) -> Table {
 }
 
 fn ours(table: &mut Table, builder: &Builder) -> u32 {
-    let given = |is: bool| is as u32;
-    let cap = builder.cap.flatten();
-    let with = Given {
+    let mut with = Given {
         stacks: builder.stacks.as_deref().unwrap_or(&[]),
         player_bet: builder.player_bet.as_deref().unwrap_or(&[]),
         board: builder.board.as_deref().unwrap_or(&[]),
-        amounts: [builder.big_blind, builder.small_blind, builder.ante]
-            .map(Option::unwrap_or_default),
-        given: [
-            given(builder.stacks.is_some()),
-            given(builder.big_blind.is_some()),
-            given(builder.small_blind.is_some()),
-            given(builder.ante.is_some()),
-            given(builder.dealer_idx.is_some()),
-            builder.dealer_idx.unwrap_or(0) as u32,
-            given(builder.cap.is_some()),
-            given(cap.is_some()),
-            cap.unwrap_or(0).into(),
-            given(builder.round.is_some()),
-            builder.round.unwrap_or(0) as u32,
-            given(builder.board.is_some()),
-            given(builder.hands.is_some()),
-            builder.hands.unwrap_or(0) as u32,
-            given(builder.player_bet.is_some()),
-            given(builder.round_data.is_some()),
-        ],
+        amounts: [0.0; AMOUNTS],
+        given: [0; GIVEN],
     };
+    let amounts = [
+        (amount::BIG_BLIND, builder.big_blind),
+        (amount::SMALL_BLIND, builder.small_blind),
+        (amount::ANTE, builder.ante),
+    ];
+    amounts.iter().for_each(|&(place, x)| with.amounts[place] = x.unwrap_or_default());
+    words(builder).iter().for_each(|&(place, word)| with.given[place] = word);
     boundary::build(table, &with)
+}
+
+/// What is given, and its number.
+fn words(builder: &Builder) -> [(usize, u32); GIVEN] {
+    let cap = builder.cap.flatten();
+    [
+        (given::STACKS, builder.stacks.is_some().into()),
+        (given::BIG_BLIND, builder.big_blind.is_some().into()),
+        (given::SMALL_BLIND, builder.small_blind.is_some().into()),
+        (given::ANTE, builder.ante.is_some().into()),
+        (given::DEALER, builder.dealer_idx.is_some().into()),
+        (given::DEALER_IS, builder.dealer_idx.unwrap_or(0) as u32),
+        (given::CAP, builder.cap.is_some().into()),
+        (given::CAP_CAPS, cap.is_some().into()),
+        (given::CAP_IS, cap.unwrap_or(0).into()),
+        (given::ROUND, builder.round.is_some().into()),
+        (given::ROUND_IS, builder.round.unwrap_or(0) as u32),
+        (given::BOARD, builder.board.is_some().into()),
+        (given::HANDS, builder.hands.is_some().into()),
+        (given::HANDS_ARE, builder.hands.unwrap_or(0) as u32),
+        (given::PLAYER_BET, builder.player_bet.is_some().into()),
+        (given::ROUND_DATA, builder.round_data.is_some().into()),
+    ]
 }
 
 /// As few fields as still differ.

@@ -3,7 +3,7 @@
 use approx::abs_diff_eq;
 use lists::amounts::{self, TELLING};
 use lists::draw::Draw;
-use peatcloak::sys;
+use peatcloak::parts;
 
 use crate::difference::Difference;
 use crate::same;
@@ -35,8 +35,8 @@ fn wide(draw: &mut Draw) -> f32 {
 }
 
 fn of_two(a: f32, b: f32, tally: &mut Tally) -> Result<(), Box<Difference>> {
-    is(sys::peatcloak_max(a, b), a.max(b), "max", [a, b])?;
-    is(sys::peatcloak_min(a, b), a.min(b), "min", [a, b])?;
+    is(parts::peatcloak_max(a, b), a.max(b), "max", [a, b])?;
+    is(parts::peatcloak_min(a, b), a.min(b), "min", [a, b])?;
     tally.count_many(Kind::Floats, 2);
     Ok(())
 }
@@ -44,11 +44,11 @@ fn of_two(a: f32, b: f32, tally: &mut Tally) -> Result<(), Box<Difference>> {
 fn of_one(x: f32, tally: &mut Tally) -> Result<(), Box<Difference>> {
     // A NaN has no sign here (docs/DIFFERENCES.md, D17).
     let negative = !x.is_nan() && x.is_sign_negative();
-    is(sys::peatcloak_tol(x), x * f32::EPSILON * 1000.0, "tolerance", [x])?;
-    is(sys::peatcloak_abs(x), x.abs(), "abs", [x])?;
-    holds(sys::peatcloak_is_sign_negative(x), negative, "is_sign_negative", x)?;
-    holds(sys::peatcloak_is_nan(x), x.is_nan(), "is_nan", x)?;
-    holds(sys::peatcloak_is_near_zero(x), abs_diff_eq!(x, 0.0), "abs_diff_eq with 0", x)?;
+    is(parts::peatcloak_tol(x), x * f32::EPSILON * 1000.0, "tolerance", [x])?;
+    is(parts::peatcloak_abs(x), x.abs(), "abs", [x])?;
+    holds(parts::peatcloak_is_sign_negative(x), negative, "is_sign_negative", x)?;
+    holds(parts::peatcloak_is_nan(x), x.is_nan(), "is_nan", x)?;
+    holds(parts::peatcloak_is_near_zero(x), abs_diff_eq!(x, 0.0), "abs_diff_eq with 0", x)?;
     tally.count_many(Kind::Floats, 5);
     Ok(())
 }

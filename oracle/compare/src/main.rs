@@ -3,6 +3,7 @@
 mod boundary;
 mod builds;
 mod difference;
+mod differing;
 mod floats;
 mod options;
 mod pair;
@@ -22,8 +23,10 @@ mod work;
 use std::process::ExitCode;
 
 use options::Run;
+use peatcloak::library;
 
 fn main() -> ExitCode {
+    library::check();
     let options = match options::read(std::env::args().skip(1)) {
         Ok(options) => options,
         Err(message) => {

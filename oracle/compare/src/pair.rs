@@ -7,32 +7,22 @@ use lists::step::Step;
 use lists::table::{Table, place};
 use rs_poker::arena::GameState;
 
-use crate::boundary::{self, PAID, PASSED};
-use crate::difference::Difference;
+use crate::boundary;
 use crate::same;
 use crate::tally::{Kind, Tally};
 use crate::theirs::{self, Answer};
 
-/// The Rust has no side where the record is not sound.
+/// The Rust has no side where the record is not sound. `before` is ours before the last step.
 pub struct Pair {
     pub ours: Table,
     theirs: Option<GameState>,
-    before: Table,
+    pub before: Table,
 }
 
 impl Pair {
     pub fn load(table: &Table) -> Self {
         let theirs = sound::record(table).then(|| carry::game_state(table));
         Pair { ours: table.clone(), theirs, before: Table::ZEROS }
-    }
-
-    /// The step on both sides, counted; where they differ, that made small.
-    pub fn take(&mut self, step: &Step, tally: &mut Tally) -> Result<(), Box<Difference>> {
-        if self.is_same(step, tally) {
-            return Ok(());
-        }
-        let asks = matches!(step, Step::Query(_) | Step::Reward(_));
-        Err(Difference::of_step(if asks { &self.ours } else { &self.before }, step))
     }
 
     /// Whether both sides answer the same, and have the same table after it.
@@ -64,8 +54,8 @@ impl Pair {
             return (refused, self.ours.words == self.before.words);
         }
         let state = self.theirs.as_ref().expect("an accepted step is on a sound record");
-        let same = same::float(self.ours.float(PAID), expected.paid)
-            && self.ours.get(PASSED) == expected.passed
+        let same = same::float(self.ours.float(place::PAID), expected.paid)
+            && self.ours.get(place::PASSED) == expected.passed
             && same::record(&self.ours, state)
             && same::untouched(&self.before, &self.ours);
         (0, same)
@@ -74,8 +64,9 @@ impl Pair {
     /// On a record that is not sound only that is asked.
     fn same_queries(&self, seat: usize) -> bool {
         let (refused, got) = boundary::queries(&self.ours, seat);
+        let [.., is_sound] = got.answers;
         let Some(state) = &self.theirs else {
-            return refused == 0 && got.answers[6] == 0;
+            return refused == 0 && is_sound == 0;
         };
         let amounts = [
             state.current_player_stack(),

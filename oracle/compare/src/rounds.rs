@@ -9,7 +9,7 @@ use lists::table::{MAX_SEATS, Table, place};
 use lists::{amounts, carry, sound};
 use rs_poker::arena::RoundData;
 
-use crate::boundary::{self, PAID, PASSED};
+use crate::boundary;
 use crate::difference::{Difference, shown};
 use crate::same;
 use crate::shrink;
@@ -50,7 +50,8 @@ fn make(draw: &mut Draw, tally: &mut Tally) -> Result<Option<Table>, Box<Differe
     }
     let bets: Option<Vec<f32>> =
         draw.once_in(2).then(|| (0..length).map(|_| amounts::any(draw)).collect());
-    let mut table = Table::ZEROS;
+    let before = if draw.once_in(2) { Table::ZEROS } else { any_words(draw) };
+    let mut table = before.clone();
     let refused = match &bets {
         None => boundary::round_new(&mut table, length, min_raise, active, to_act),
         Some(bets) => boundary::round_new_with_bets(&mut table, min_raise, active, to_act, bets),
@@ -60,13 +61,15 @@ fn make(draw: &mut Draw, tally: &mut Tally) -> Result<Option<Table>, Box<Differe
     tally.count(Kind::RoundMade, if good { 0 } else { BAD_RECORD });
     let set = carry::set_of(active);
     let is_same = if !good {
-        refused == BAD_RECORD && table.words == Table::ZEROS.words
+        refused == BAD_RECORD && table.words == before.words
     } else {
         let data = match bets.clone() {
             None => RoundData::new(length, min_raise, set, to_act),
             Some(bets) => RoundData::new_with_bets(min_raise, set, to_act, bets),
         };
-        refused == 0 && same::round_data(&table, &data) && rest(&table, &Table::ZEROS, length)
+        let mut rest_before = before;
+        rest_before.words[place::ROUND_BETS..place::ROUND_BETS + MAX_SEATS].fill(0);
+        refused == 0 && same::round_data(&table, &data) && rest(&table, &rest_before, length)
     };
     if is_same {
         return Ok(good.then_some(table));
@@ -75,6 +78,11 @@ fn make(draw: &mut Draw, tally: &mut Tally) -> Result<Option<Table>, Box<Differe
     let parts = format!("smallest raise {:08x}, bets {bets:?}", min_raise.to_bits());
     let told = format!("{asked}, {parts}\nours  refused {refused}, {}\n", shown(&table));
     Err(Difference::new(told))
+}
+
+/// What stands there is not looked at when round data is made; its list is written whole.
+fn any_words(draw: &mut Draw) -> Table {
+    Table { words: std::array::from_fn(|_| draw.bits() as u32) }
 }
 
 /// What is asked of round data.
@@ -130,10 +138,10 @@ fn is_same(table: &mut Table, ask: &Ask, expected: Result<RoundData, u32>) -> bo
             let n = data.player_bet.len();
             let passed = match ask {
                 Ask::Walk => distance(before.get(place::TO_ACT_IDX), data.to_act_idx, n),
-                _ => table.get(PASSED),
+                _ => table.get(place::PASSED),
             };
             refused == 0
-                && table.get(PASSED) == passed
+                && table.get(place::PASSED) == passed
                 && same::round_data(table, data)
                 && rest(table, &before, n)
         }
@@ -149,7 +157,7 @@ fn rest(after: &Table, before: &Table, length: usize) -> bool {
     let round = place::STARTING_PLAYER_ACTIVE..=place::FORCED_BET_COUNT;
     let own = |at: &usize| {
         round.contains(at)
-            || [PAID, PASSED, place::ROUND_BET, place::MIN_RAISE].contains(at)
+            || [place::PAID, place::PASSED, place::ROUND_BET, place::MIN_RAISE].contains(at)
             || (place::ROUND_BETS..place::ROUND_BETS + length).contains(at)
     };
     (0..after.words.len()).filter(|at| !own(at)).all(|at| after.words[at] == before.words[at])

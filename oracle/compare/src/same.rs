@@ -1,6 +1,7 @@
 //! Whether both sides have the same: two zeros are equal, and so are two NaNs.
 
 use lists::carry::bits_of;
+use lists::places::NUMBERS;
 use lists::table::{MAX_BOARD, MAX_SEATS, SEAT_LISTS, Table, WORDS, place};
 use rs_poker::arena::{GameState, RoundData};
 
@@ -13,9 +14,9 @@ pub fn tables(a: &Table, b: &Table, but: &[usize]) -> bool {
     (0..WORDS).filter(|at| !but.contains(at)).all(|at| word(a, b, at))
 }
 
-/// One word of two tables; from the pot on they are floats.
+/// One word of two tables; the floats stand behind the numbers.
 pub fn word(a: &Table, b: &Table, at: usize) -> bool {
-    let is_float = at >= place::TOTAL_POT;
+    let is_float = at >= NUMBERS;
     a.words[at] == b.words[at] || is_float && float(a.float(at), b.float(at))
 }
 
@@ -83,17 +84,17 @@ pub fn untouched(before: &Table, after: &Table) -> bool {
     tails.all(|same| same)
         && kept(board, place::BOARD + MAX_BOARD)
         && before.words[place::CAP] == after.words[place::CAP]
-        && before.words[place::STACKS - 1] == after.words[place::STACKS - 1]
+        && kept(place::ADDED, NUMBERS)
+        && kept(place::PAID + 1, place::STACKS)
 }
 
 #[cfg(test)]
 mod tests {
     use lists::carry;
     use lists::draw::Draw;
-    use lists::table::{Table, WORDS};
+    use lists::table::{Table, WORDS, place};
 
     use super::{record, untouched};
-    use crate::boundary::{PAID, PASSED};
 
     /// A bit of any word but the two answers, which are compared by themselves, is seen.
     #[test]
@@ -103,7 +104,7 @@ mod tests {
             let before: Table = lists::tables::half_played(&mut draw);
             let state = carry::game_state(&before);
             assert!(record(&before, &state) && untouched(&before, &before));
-            for at in (0..WORDS).filter(|at| ![PAID, PASSED].contains(at)) {
+            for at in (0..WORDS).filter(|at| ![place::PAID, place::PASSED].contains(at)) {
                 let mut after = before.clone();
                 after.words[at] ^= 1;
                 assert!(!record(&after, &state) || !untouched(&before, &after), "word {at}");

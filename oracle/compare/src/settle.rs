@@ -5,9 +5,9 @@ use std::fmt::Write;
 use lists::draw::Draw;
 use lists::settlement;
 use lists::settlements;
-use lists::table::{MAX_SEATS, Table};
+use lists::table::{MAX_SEATS, Table, place};
 
-use crate::boundary::{self, PAID, PASSED};
+use crate::boundary;
 use crate::difference::{Difference, shown, tell_places};
 use crate::shrink;
 use crate::tally::{Kind, Tally};
@@ -49,7 +49,7 @@ fn is_same(table: &Table, ranks: &[u16; MAX_SEATS]) -> bool {
     match expected(table, ranks) {
         Err(number) => refused == number && got.words == table.words,
         Ok(mut after) => {
-            for answer in [PAID, PASSED] {
+            for answer in [place::PAID, place::PASSED] {
                 after.words[answer] = got.words[answer];
             }
             let same_rewards = settlement::rewards(&after).zip(rewards).all(|(a, b)| a == b);
@@ -68,7 +68,7 @@ fn told(table: &Table, ranks: &[u16; MAX_SEATS]) -> Box<Difference> {
         Ok(after) => {
             let rewards: Vec<i32> = settlement::rewards(&after).collect();
             writeln!(told, "chip by chip: rewards {rewards:?}").expect("text");
-            tell_places(&mut told, &got, &after, &[PAID, PASSED]);
+            tell_places(&mut told, &got, &after, &[place::PAID, place::PASSED]);
         }
     }
     Difference::new(told)

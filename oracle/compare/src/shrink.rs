@@ -1,7 +1,8 @@
 //! Makes an input small: one word after another is set to something plain, while the difference stays.
 
+use lists::places::NUMBERS;
 use lists::step::Step;
-use lists::table::{Table, WORDS, place};
+use lists::table::{Table, WORDS};
 
 const PLAIN: [f32; 5] = [0.0, 1.0, 10.0, 100.0, 1000.0];
 
@@ -24,8 +25,7 @@ pub fn step(table: &Table, step: &Step, differs: impl Fn(&Table, &Step) -> bool)
 pub fn smaller_table(table: &Table, differs: impl Fn(&Table) -> bool) -> Table {
     let mut table = table.clone();
     for at in 0..WORDS {
-        let tries =
-            if at < place::TOTAL_POT { smaller_number(&table, at) } else { plainer(&table, at) };
+        let tries = if at < NUMBERS { smaller_number(&table, at) } else { plainer(&table, at) };
         for word in tries {
             let kept = std::mem::replace(&mut table.words[at], word);
             if differs(&table) {

@@ -9,7 +9,7 @@ use std::time::{Duration, Instant};
 
 use lists::step::Step;
 
-use crate::difference::Difference;
+use crate::differing::step_told;
 use crate::tally::grouped;
 use bettor::{ANSWERS, Bettor};
 use tables::{TABLES, Telling};
@@ -76,7 +76,7 @@ fn tell(shared: &Shared, table: &Telling, is_forced: bool, took: f64) {
             let amount = f32::from_bits(bits);
             println!("DIFFERENT at the amount {amount} ({bits:08x})");
             let step = if is_forced { Step::Forced(amount) } else { Step::Bet(amount) };
-            println!("{}", Difference::of_step(&table.table(), &step).told);
+            println!("{}", step_told(&table.table(), &step).told);
         }
     }
 }

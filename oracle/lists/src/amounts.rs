@@ -1,9 +1,7 @@
 //! Where floats are drawn from.
 
+use crate::bits;
 use crate::draw::Draw;
-
-/// The one NaN that lists know: its sign and payload are never told apart.
-pub const NAN_BITS: u32 = 0x7fc0_0000;
 
 /// Floats that sit on or beside a line somewhere in the texts or in IEEE 754.
 pub const TELLING: [f32; 33] = [
@@ -39,13 +37,8 @@ pub const TELLING: [f32; 33] = [
     f32::MIN,
     f32::INFINITY,
     f32::NEG_INFINITY,
-    f32::from_bits(NAN_BITS),
+    f32::from_bits(bits::NAN),
 ];
-
-/// The bits as a list shows them: every NaN alike.
-pub fn bits(x: f32) -> u32 {
-    if x.is_nan() { NAN_BITS } else { x.to_bits() }
-}
 
 pub fn telling(draw: &mut Draw) -> f32 {
     draw.pick(&TELLING)
@@ -53,7 +46,7 @@ pub fn telling(draw: &mut Draw) -> f32 {
 
 /// Any bit pattern, NaNs made one.
 pub fn pattern(draw: &mut Draw) -> f32 {
-    one_nan(f32::from_bits(draw.bits() as u32))
+    bits::one_nan(f32::from_bits(draw.bits() as u32))
 }
 
 /// A whole number 0 to `most`.
@@ -83,9 +76,4 @@ pub fn any(draw: &mut Draw) -> f32 {
         }
         _ => pattern(draw),
     }
-}
-
-/// `x`, or the one NaN where a sum or difference gave another.
-pub fn one_nan(x: f32) -> f32 {
-    f32::from_bits(bits(x))
 }

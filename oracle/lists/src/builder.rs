@@ -7,12 +7,14 @@ use crate::carry::{self, ROUNDS};
 use crate::line::Line;
 use crate::refusals::{self, BAD_CARD, BAD_RECORD, Refusal};
 use crate::sound;
-use crate::table::Table;
+use crate::table::{MAX_SEATS, Table};
 
 /// Cards are numbers, and may be above 51. Of hands only the count matters.
 #[derive(Clone, Default)]
 pub struct Builder {
     pub stacks: Option<Vec<f32>>,
+    /// In the place of the stacks: so many seats with this stack each.
+    pub same_stacks: Option<(usize, f32)>,
     pub big_blind: Option<f32>,
     pub small_blind: Option<f32>,
     pub ante: Option<f32>,
@@ -63,6 +65,10 @@ impl Builder {
             player_bet: self.player_bet.as_ref(),
             round_data: self.round_data.clone()
         }
+        if let Some((count, stack)) = self.same_stacks {
+            // The Rust's list cannot have any number of places. From 17 on it refuses them all alike.
+            builder = builder.num_players_with_stack(count.min(MAX_SEATS + 1), stack);
+        }
         builder.build()
     }
 
@@ -90,7 +96,10 @@ impl Builder {
     }
 
     pub fn write(&self, line: Line) -> Line {
-        let line = optional(line, &self.stacks, |line, stacks| floats(line.token('S'), stacks));
+        let line = match self.same_stacks {
+            Some((count, stack)) => line.token('W').token(count).float(stack),
+            None => optional(line, &self.stacks, |line, stacks| floats(line.token('S'), stacks)),
+        };
         let line = optional(line, &self.big_blind, |line, &x| line.token('G').float(x));
         let line = optional(line, &self.small_blind, |line, &x| line.token('M').float(x));
         let line = optional(line, &self.ante, |line, &x| line.token('A').float(x));

@@ -11,6 +11,7 @@ use crate::draw::Draw;
 pub fn good(draw: &mut Draw) -> Builder {
     let n = draw.players();
     Builder {
+        same_stacks: None,
         stacks: Some(stacks(draw, n)),
         big_blind: Some(positive(draw)),
         small_blind: given(draw, not_negative),

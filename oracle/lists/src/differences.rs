@@ -7,7 +7,7 @@ use rs_poker::arena::RoundData;
 use crate::builder::Builder;
 use crate::carry::{self, set_of};
 use crate::line::Line;
-use crate::rounds::{self, Asked};
+use crate::round::{self, Asked};
 use crate::step::{self, Step};
 use crate::table::{MAX_BOARD, MAX_SEATS, Table, place};
 
@@ -24,7 +24,10 @@ pub fn floats() -> Vec<Line> {
     ]
 }
 
-/// D3 to D8, D14, D21 to D26.
+/// Places of four bytes that are more than a list of the Rust can have.
+const TOO_MANY: usize = 1 << 61;
+
+/// D3 to D8, D14, D21 to D26, D32.
 pub fn rounds() -> Vec<Line> {
     let empty = data(0, 0, 0);
     let seat_outside = data(1, 1, 0);
@@ -42,14 +45,15 @@ pub fn rounds() -> Vec<Line> {
         full(place::FORCED_BET_COUNT, Asked::Bet(0.0, true)),
     ];
     lines.extend([
-        vec![rounds::new(1, 1.0, 0b10, 0).0],
+        vec![round::new(1, 1.0, 0b10, 0).0],
         asked(&owing_outside, &[Asked::Walk]),
-        vec![rounds::new(0, 1.0, 0, 0).0, rounds::new_with_bets(1.0, 0, 0, vec![]).0],
-        vec![rounds::new_with_bets(1.0, 0, 0, vec![0.0; 17]).0],
+        vec![round::new(0, 1.0, 0, 0).0, round::new_with_bets(1.0, 0, 0, vec![]).0],
+        vec![round::new_with_bets(1.0, 0, 0, vec![0.0; 17]).0],
         asked(&owing_outside, &[Asked::Queries]),
         asked(&owing_outside, &[Asked::Bet(1.0, false)]),
         asked(&data(2, 0, 0b110), &[Asked::Walk]),
         asked(&seat_outside, &[Asked::Walk]),
+        vec![round::new(TOO_MANY, 1.0, 0, 0).0, round::new(TOO_MANY - 1, 1.0, 0, 0).0],
     ]);
     lines.into_iter().flatten().collect()
 }
@@ -68,7 +72,7 @@ fn data(length: usize, to_act: usize, owing: usize) -> Table {
 fn asked(table: &Table, questions: &[Asked]) -> Vec<Line> {
     let mut after = table.clone();
     let answers = questions.iter().map(|question| question.of(&mut after));
-    [rounds::loading(table)].into_iter().chain(answers).collect()
+    [round::loading(table)].into_iter().chain(answers).collect()
 }
 
 fn full(counter: usize, bet: Asked) -> Vec<Line> {
@@ -77,11 +81,19 @@ fn full(counter: usize, bet: Asked) -> Vec<Line> {
     asked(&table, &[bet])
 }
 
-/// D19 and D20.
+/// D19, D20 and D34; after it two that the Rust can be asked, one refused and one built.
 pub fn builders() -> Vec<Builder> {
+    let seats = |count| Builder {
+        same_stacks: Some((count, 100.0)),
+        big_blind: Some(10.0),
+        ..Builder::default()
+    };
     vec![
         Builder { board: Some(vec![0, 1, 52]), ..the_builder() },
         Builder { round_data: Some(RoundData::new(2, 10.0, set_of(0b11), 2)), ..the_builder() },
+        seats(TOO_MANY),
+        seats(MAX_SEATS + 1),
+        seats(2),
     ]
 }
 
@@ -96,7 +108,7 @@ fn with(changes: &[(usize, u32)]) -> Table {
     table
 }
 
-/// D9 to D13, D15, D18, D27 to D31.
+/// D9 to D13, D15, D18, D27 to D31, D33, D35.
 pub fn steps() -> Vec<Line> {
     let infinity = f32::INFINITY.to_bits();
     let mut lines = vec![
@@ -117,7 +129,10 @@ pub fn steps() -> Vec<Line> {
         fold_beside(place::BOARD, 7),
         taken(&[], &[Step::Award(0, 1.0)]),
         query_above_the_places(),
+        // The last number that a word of a list holds.
+        taken(&[(place::NUM_PLAYERS, u32::MAX)], &[Step::Advance, Step::Complete]),
     ]);
+    lines.extend(panics_inside());
     lines.into_iter().flatten().collect()
 }
 
@@ -134,6 +149,11 @@ fn unsound() -> Vec<Vec<Line>> {
     let over = (place::ROUND, 11);
     let cards = (0..MAX_BOARD).map(|card| (place::BOARD + card, card as u32));
     let board: Vec<_> = cards.chain([(place::BOARD_LENGTH, 6)]).collect();
+    let all_in = (place::PLAYER_ALL_IN, 0b100);
+    let chips = f32::to_bits;
+    // Seat 2 is to act, of which only the round's list knows.
+    let beyond =
+        [(place::TO_ACT_IDX, 2), (place::ROUND_LENGTH, 3), (place::ROUND_BETS + 2, chips(20.0))];
     vec![
         taken(&[(place::TO_ACT_IDX, 2)], &[Step::Fold]),
         taken(&[dealer], &[Step::Advance]),
@@ -141,8 +161,30 @@ fn unsound() -> Vec<Vec<Line>> {
         taken(&[dealer, over], &[Step::Advance, Step::Complete]),
         taken(&[(place::NUM_PLAYERS, 1)], &[Step::Advance]),
         taken(&[(place::ROUND_LENGTH, 3)], &[Step::Bet(10.0)]),
-        taken(&[(place::PLAYER_ALL_IN, 0b100)], &[Step::Bet(10.0)]),
+        taken(&[all_in], &[Step::Bet(10.0)]),
         taken(&board, &[Step::Bet(10.0)]),
+        taken(&[all_in], &[Step::Award(0, 1.0), Step::Reward(0)]),
+        taken(&[(place::TO_ACT_IDX, 2)], &[Step::Bet(-0.0), Step::Bet(f32::NAN)]),
+        taken(&[all_in, (place::ROUND_BETS, chips(20.0))], &[Step::Bet(10.0)]),
+        taken(&beyond, &[Step::Bet(10.0)]),
+        taken(&[all_in, (place::ROUND_BET, chips(20.0))], &[Step::Bet(10.0)]),
+        taken(&[all_in], &[Step::Bet(5.0)]),
+    ]
+}
+
+/// The rows below D35.
+fn panics_inside() -> Vec<Vec<Line>> {
+    let seventeen = (place::ROUND_LENGTH, 17);
+    let to_act = |seat| (place::TO_ACT_IDX, seat);
+    let past_the_last =
+        [(place::NUM_PLAYERS, 17), (place::DEALER_IDX, 15), (place::PLAYER_ACTIVE, 0b1)];
+    vec![
+        taken(&[(place::ROUND_LENGTH, 0)], &[Step::Fold]),
+        taken(&[(place::ROUND_LENGTH, 1), to_act(1)], &[Step::Bet(10.0), Step::Forced(10.0)]),
+        taken(&[seventeen, to_act(1)], &[Step::Fold, Step::Bet(0.0)]),
+        taken(&past_the_last, &[Step::Advance]),
+        taken(&[(place::DEALER_IDX, u32::MAX)], &[Step::Advance]),
+        taken(&[(place::NUM_PLAYERS, 17), seventeen, to_act(16)], &[Step::Bet(0.0)]),
     ]
 }
 

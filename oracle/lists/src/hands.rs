@@ -3,7 +3,7 @@
 
 use crate::builder::Builder;
 use crate::step::Step;
-use crate::table::{Table, place};
+use crate::table::{Table, first_seats, place};
 
 /// P1 to P12: the table and the step, in this order.
 pub fn bets() -> Vec<(Table, Step)> {
@@ -46,6 +46,56 @@ fn facing(own: f32, stack: f32, bet: f32) -> Table {
     table
 }
 
+/// Steps whose walk passes over seats, finds nobody owing, or comes back to its start; that only a
+/// forced bet's or a new round's does, since the others clear the mark of the seat that acts. At
+/// Preflop with two seats it is done twice. Seat 0 is the dealer and to act.
+pub fn walked() -> Vec<(Table, Step)> {
+    let (before_preflop, before_flop) = (2, 4);
+    let opens = |n, round, active| (seated(n, round, active, 0), Step::Advance);
+    vec![
+        (owing(3, 0b101), Step::Bet(0.0)),
+        (seated(3, 5, 0b101, 0b001), Step::AllIn),
+        (owing(4, 0b1001), Step::Bet(0.0)),
+        (owing(3, 0b001), Step::Bet(0.0)),
+        (owing(3, 0b001), Step::Forced(0.0)),
+        (seated(3, 5, 0b001, 0b001), Step::Forced(10.0)),
+        (owing(3, 0b101), Step::Fold),
+        (owing(4, 0b1001), Step::Fold),
+        (owing(3, 0b001), Step::Fold),
+        opens(2, before_preflop, 0b11),
+        opens(2, before_preflop, 0b10),
+        opens(2, before_preflop, 0b01),
+        opens(2, before_preflop, 0b00),
+        opens(3, before_preflop, 0b011),
+        opens(3, before_preflop, 0b001),
+        opens(2, before_flop, 0b01),
+    ]
+}
+
+/// At Flop with all seats active, of which these owe.
+fn owing(n: usize, owing: u16) -> Table {
+    seated(n, 5, first_seats(n), owing)
+}
+
+/// So many seats with 100 each, before any bet of this round. The smallest raise is 10.
+fn seated(n: usize, round: usize, active: u16, owing: u16) -> Table {
+    let mut table = Table::ZEROS;
+    table.set(place::NUM_PLAYERS, n);
+    table.set(place::ROUND_LENGTH, n);
+    table.set(place::ROUND, round);
+    table.set(place::ROUND_BEFORE, round - 1);
+    table.set(place::PLAYER_ACTIVE, active.into());
+    table.set(place::STARTING_PLAYER_ACTIVE, active.into());
+    table.set(place::NEEDS_ACTION, owing.into());
+    table.set_float(place::BIG_BLIND, 10.0);
+    table.set_float(place::MIN_RAISE, 10.0);
+    for seat in 0..n {
+        table.set_float(place::STACKS + seat, 100.0);
+        table.set_float(place::STARTING_STACKS + seat, 100.0);
+    }
+    table
+}
+
 /// P13 and P14: round data of six seats with seat 5 to act, for the walk.
 pub fn walks() -> [Table; 2] {
     [0, 1 << 5].map(|owing| {
@@ -78,4 +128,21 @@ pub fn builders() -> Vec<Builder> {
         with_board(&[7, 99, 7]),
         with_board(&[99, 99]),
     ]
+}
+
+#[cfg(test)]
+mod tests {
+    /// What stands last before the changes.
+    fn count(line: &str) -> usize {
+        let (_, answer) = line.split_once(" = ").expect("an answer");
+        let values = answer.split(' ').take_while(|token| !token.contains(':'));
+        values.last().expect("a count").parse().expect("a number")
+    }
+
+    #[test]
+    fn the_walks_pass_to_so_many_seats() {
+        let lines = super::walked().into_iter().map(|(mut table, step)| step.take(&mut table));
+        let counts: Vec<usize> = lines.map(|line| count(line.text())).collect();
+        assert_eq!(counts, [2, 2, 3, 1, 3, 3, 2, 3, 1, 2, 3, 4, 2, 1, 3, 2]);
+    }
 }

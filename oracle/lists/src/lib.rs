@@ -2,6 +2,7 @@
 //! and told by document 01 where the Rust panics or does not end.
 
 pub mod amounts;
+pub mod bits;
 pub mod broken;
 pub mod builder;
 pub mod builders;
@@ -17,9 +18,11 @@ pub mod hands;
 pub mod kinds;
 pub mod line;
 pub mod list;
+pub mod places;
 pub mod play;
 pub mod pots;
 pub mod refusals;
+pub mod round;
 pub mod rounds;
 pub mod scripts;
 pub mod seats;
@@ -32,3 +35,4 @@ pub mod steps;
 pub mod table;
 pub mod tables;
 pub mod wagers;
+pub mod walk;

@@ -2,9 +2,10 @@
 
 use std::fmt::{Display, Write};
 
-use crate::amounts;
+use crate::bits;
+use crate::places::NUMBERS;
 use crate::refusals::Refusal;
-use crate::table::{Table, WORDS};
+use crate::table::{Table, WORDS, place};
 
 pub struct Line {
     text: String,
@@ -25,7 +26,7 @@ impl Line {
     }
 
     pub fn float(self, x: f32) -> Self {
-        self.token(format_args!("{:08x}", amounts::bits(x)))
+        self.token(format_args!("{:08x}", bits::of(x)))
     }
 
     /// A signed number as the hex digits of its bits.
@@ -49,7 +50,8 @@ impl Line {
     /// The words of `after` that differ from `before`.
     pub fn changes(self, before: &Table, after: &Table) -> Self {
         let changed = (0..WORDS).filter(|&at| before.words[at] != after.words[at]);
-        changed.fold(self, |line, at| line.token(format_args!("{at}:{:08x}", after.words[at])))
+        let told = changed.filter_map(|at| Some((listed(at)?, after.words[at])));
+        told.fold(self, |line, (place, word)| line.token(format_args!("{place}:{word:08x}")))
     }
 
     /// A table that stands for itself: what differs from zeros.
@@ -59,5 +61,14 @@ impl Line {
 
     pub fn text(&self) -> &str {
         &self.text
+    }
+}
+
+/// A place as lists tell it. They have what the Rust's record has: the floats follow right behind its
+/// numbers, however many are added to those.
+fn listed(at: usize) -> Option<usize> {
+    match at {
+        NUMBERS.. => Some(place::ADDED + at - NUMBERS),
+        _ => (at < place::ADDED).then_some(at),
     }
 }

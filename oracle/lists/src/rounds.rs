@@ -2,21 +2,17 @@
 
 use std::io;
 
-use rs_poker::arena::RoundData;
-
-use crate::carry;
 use crate::draw::Draw;
 use crate::line::Line;
 use crate::list::List;
-use crate::refusals::{BAD_RECORD, COUNTER_FULL};
-use crate::sound;
+use crate::round::{self, Asked};
 use crate::table::{MAX_SEATS, Table, place};
-use crate::{amounts, differences, hands};
+use crate::{amounts, bits, differences, hands};
 
 pub fn write(list: &mut List, draw: &mut Draw, count: u64) -> io::Result<()> {
     for mut table in hands::walks() {
-        list.put(loading(&table))?;
-        list.put(walk(&mut table))?;
+        list.put(round::loading(&table))?;
+        list.put(Asked::Walk.of(&mut table))?;
     }
     list.put_all(differences::rounds())?;
     for _ in 0..count {
@@ -28,7 +24,7 @@ pub fn write(list: &mut List, draw: &mut Draw, count: u64) -> io::Result<()> {
 fn sequence(list: &mut List, draw: &mut Draw) -> io::Result<()> {
     let mut table = if draw.once_in(3) {
         let table = loaded(draw);
-        list.put(loading(&table))?;
+        list.put(round::loading(&table))?;
         table
     } else {
         let (line, made) = make(draw);
@@ -49,25 +45,6 @@ fn sequence(list: &mut List, draw: &mut Draw) -> io::Result<()> {
     Ok(())
 }
 
-/// What round data is asked: `advance_action`, `do_bet`, the queries.
-#[derive(Clone, Copy)]
-pub enum Asked {
-    Walk,
-    Bet(f32, bool),
-    Queries,
-}
-
-impl Asked {
-    /// Asks it of the table and gives the line.
-    pub fn of(&self, table: &mut Table) -> Line {
-        match *self {
-            Asked::Walk => walk(table),
-            Asked::Bet(amount, forced) => bet(table, amount, forced),
-            Asked::Queries => ask(table),
-        }
-    }
-}
-
 /// `new` or `new_with_bets`, one in five with something that 01 refuses.
 fn make(draw: &mut Draw) -> (Line, Option<Table>) {
     let mut length = length(draw);
@@ -82,44 +59,11 @@ fn make(draw: &mut Draw) -> (Line, Option<Table>) {
         }
     }
     if draw.once_in(2) {
-        new(length, min_raise, active, to_act)
+        round::new(length, min_raise, active, to_act)
     } else {
         let bets = (0..length).map(|_| amounts::any(draw)).collect();
-        new_with_bets(min_raise, active, to_act, bets)
+        round::new_with_bets(min_raise, active, to_act, bets)
     }
-}
-
-pub fn new(length: usize, min_raise: f32, active: u16, to_act: usize) -> (Line, Option<Table>) {
-    let line = Line::new('N').token(length).float(min_raise).token(active).token(to_act);
-    let ask = || RoundData::new(length, min_raise, carry::set_of(active), to_act);
-    made(line, are_good(length, active, to_act).then(ask))
-}
-
-pub fn new_with_bets(
-    min_raise: f32,
-    active: u16,
-    to_act: usize,
-    bets: Vec<f32>,
-) -> (Line, Option<Table>) {
-    let line = Line::new('B').float(min_raise).token(active).token(to_act);
-    let line = line.token(bets.len()).floats(&bets);
-    let good = are_good(bets.len(), active, to_act);
-    let ask = || RoundData::new_with_bets(min_raise, carry::set_of(active), to_act, bets);
-    made(line, good.then(ask))
-}
-
-fn are_good(length: usize, active: u16, to_act: usize) -> bool {
-    let fits = (1..=MAX_SEATS).contains(&length);
-    fits && to_act < length && sound::within(active, length)
-}
-
-fn made(line: Line, data: Option<RoundData>) -> (Line, Option<Table>) {
-    let Some(data) = data else {
-        return (line.refused(BAD_RECORD), None);
-    };
-    let mut table = Table::ZEROS;
-    carry::put_round_data(&mut table, &data);
-    (line.answer().new_table(&table), Some(table))
 }
 
 /// One bet alone is good too.
@@ -130,10 +74,6 @@ pub fn length(draw: &mut Draw) -> usize {
 /// A seat at or above the length; none is left above 16, so seat 15 then.
 pub fn outside(draw: &mut Draw, length: usize) -> u16 {
     1 << draw.within(length.min(MAX_SEATS - 1), MAX_SEATS - 1)
-}
-
-pub fn loading(table: &Table) -> Line {
-    Line::new('L').new_table(table)
 }
 
 /// Round data that no call makes. The seats active at its start are never looked
@@ -187,50 +127,5 @@ pub fn extra(draw: &mut Draw, table: &Table) -> f32 {
         3 => amounts::whole(draw, 50),
         _ => amounts::any(draw),
     };
-    amounts::one_nan(extra)
-}
-
-fn walk(table: &mut Table) -> Line {
-    let line = Line::new('w');
-    if !sound::round_data(table) {
-        return line.refused(BAD_RECORD);
-    }
-    let mut data = carry::round_data(table);
-    let (length, from) = (data.player_bet.len(), data.to_act_idx);
-    data.advance_action();
-    // The Rust does not count. The way back to the start is the whole round.
-    let moved = (data.to_act_idx + length - from - 1) % length + 1;
-    changed(line.answer().token(moved), table, &data)
-}
-
-fn bet(table: &mut Table, amount: f32, forced: bool) -> Line {
-    let line = Line::new('b').float(amount).flag(forced);
-    if !sound::round_data(table) {
-        return line.refused(BAD_RECORD);
-    }
-    let mut rehearsed = carry::round_data(table);
-    sound::clear_counters(&mut rehearsed);
-    rehearsed.do_bet(amount, forced);
-    if sound::counter_full(carry::round_data(table), rehearsed) {
-        return line.refused(COUNTER_FULL);
-    }
-    let mut data = carry::round_data(table);
-    data.do_bet(amount, forced);
-    changed(line.answer(), table, &data)
-}
-
-fn changed(line: Line, table: &mut Table, data: &RoundData) -> Line {
-    let before = table.clone();
-    carry::put_round_data(table, data);
-    line.changes(&before, table)
-}
-
-fn ask(table: &Table) -> Line {
-    let line = Line::new('q');
-    if !sound::round_data(table) {
-        return line.refused(BAD_RECORD);
-    }
-    let data = carry::round_data(table);
-    let line = line.answer().token(data.num_players_need_action());
-    line.flag(data.is_action_unopened()).float(data.current_player_bet())
+    bits::one_nan(extra)
 }

@@ -1,13 +1,14 @@
 //! One step on a record: asked of the Rust, or refused by document 01's
 //! conditions where the Rust would panic.
 
-use rs_poker::arena::GameState;
+use rs_poker::arena::{GameState, Round};
 
-use crate::carry;
+use crate::carry::{self, ROUNDS};
 use crate::line::Line;
 use crate::refusals::{self, BAD_RECORD, BAD_SEAT, COUNTER_FULL, Refusal};
 use crate::sound;
 use crate::table::{Table, place};
+use crate::walk;
 
 #[derive(Clone, Copy)]
 pub enum Step {
@@ -46,47 +47,72 @@ impl Step {
             return line.refused(BAD_RECORD);
         }
         match *self {
-            Step::Advance => change(line, table, GameState::advance_round),
-            Step::Complete => change(line, table, GameState::complete),
-            Step::Fold => change(line, table, GameState::fold),
-            Step::Bet(amount) => bet(line, table, amount, false),
-            Step::Forced(amount) => bet(line, table, amount, true),
-            Step::Call => bet(line, table, table.float(place::ROUND_BET), false),
-            Step::AllIn => bet(line, table, f32::INFINITY, false),
+            Step::Advance => self.change(line, table, GameState::advance_round),
+            Step::Complete => self.change(line, table, GameState::complete),
+            Step::Fold => self.change(line, table, GameState::fold),
+            Step::Bet(amount) => self.bet(line, table, amount, false),
+            Step::Forced(amount) => self.bet(line, table, amount, true),
+            Step::Call => self.bet(line, table, table.float(place::ROUND_BET), false),
+            Step::AllIn => self.bet(line, table, f32::INFINITY, false),
             // The Rust indexes its lists, and panics from n on.
             Step::Award(seat, _) | Step::Reward(seat) if seat >= table.get(place::NUM_PLAYERS) => {
                 line.refused(BAD_SEAT)
             }
-            Step::Award(seat, amount) => change(line, table, |state| state.award(seat, amount)),
+            Step::Award(seat, amount) => {
+                self.change(line, table, |state| state.award(seat, amount))
+            }
             Step::Reward(seat) => line.answer().float(carry::game_state(table).player_reward(seat)),
             Step::Query(seat) => query(line, &carry::game_state(table), seat),
         }
     }
+
+    fn change(&self, line: Line, table: &mut Table, step: impl Fn(&mut GameState)) -> Line {
+        let mut state = carry::game_state(table);
+        step(&mut state);
+        self.moved(line.answer(), table, carry::table(&state))
+    }
+
+    fn bet(&self, line: Line, table: &mut Table, amount: f32, forced: bool) -> Line {
+        match pay(table, amount, forced) {
+            Ok((paid, after)) => self.moved(line.answer().float(paid), table, after),
+            Err(number) => line.refused(number),
+        }
+    }
+
+    /// The count of the walk, then what the step changed.
+    fn moved(&self, line: Line, table: &mut Table, after: Table) -> Line {
+        let line = line.token(self.passed(table, &after)).changes(table, &after);
+        *table = after;
+        line
+    }
+
+    /// How many seats the walk of a step that is taken passed to, 0 where it has none.
+    fn passed(&self, before: &Table, after: &Table) -> usize {
+        match self {
+            Step::Advance if round(before) == Round::Complete => 0,
+            Step::Advance => walk::passed(after, after.get(place::DEALER_IDX), opening(after)),
+            Step::Fold | Step::Bet(_) | Step::Forced(_) | Step::Call | Step::AllIn => {
+                walk::passed(after, before.get(place::TO_ACT_IDX), 1)
+            }
+            Step::Complete | Step::Award(..) | Step::Reward(_) | Step::Query(_) => 0,
+        }
+    }
+}
+
+fn round(table: &Table) -> Round {
+    ROUNDS[table.get(place::ROUND)]
+}
+
+/// The walks from the dealer that open a round: at Preflop with two seats there are two.
+fn opening(table: &Table) -> usize {
+    let twice = round(table) == Round::Preflop && table.get(place::NUM_PLAYERS) == 2;
+    if twice { 2 } else { 1 }
 }
 
 /// The line that loads a record, sound or not.
 pub fn loading(table: &Table) -> Line {
     let letter = if sound::record(table) { 'T' } else { 'U' };
     Line::new(letter).new_table(table)
-}
-
-fn change(line: Line, table: &mut Table, step: impl Fn(&mut GameState)) -> Line {
-    let mut state = carry::game_state(table);
-    step(&mut state);
-    moved(line.answer(), table, carry::table(&state))
-}
-
-fn moved(line: Line, table: &mut Table, after: Table) -> Line {
-    let line = line.changes(table, &after);
-    *table = after;
-    line
-}
-
-fn bet(line: Line, table: &mut Table, amount: f32, forced: bool) -> Line {
-    match pay(table, amount, forced) {
-        Ok((paid, after)) => moved(line.answer().float(paid), table, after),
-        Err(number) => line.refused(number),
-    }
 }
 
 fn pay(table: &Table, amount: f32, forced: bool) -> Result<(f32, Table), Refusal> {

@@ -6,20 +6,27 @@ use crate::draw::Draw;
 use crate::line::Line;
 use crate::list::List;
 use crate::step::Step;
+use crate::table::Table;
 use crate::{broken, differences, edges, hands, play, tables};
 
 pub fn write(list: &mut List, draw: &mut Draw, count: u64) -> io::Result<()> {
-    for (mut table, step) in hands::bets() {
-        list.put(Line::new('T').new_table(&table))?;
-        list.put(step.take(&mut table))?;
-    }
+    put_hands(list, hands::bets())?;
     list.put_all(differences::steps())?;
+    put_hands(list, hands::walked())?;
     for _ in 0..count {
         match draw.below(13) {
             0 => on_unsound(list, draw)?,
             1 => edges::write(list, draw)?,
             _ => on_sound(list, draw)?,
         }
+    }
+    Ok(())
+}
+
+fn put_hands(list: &mut List, hands: Vec<(Table, Step)>) -> io::Result<()> {
+    for (mut table, step) in hands {
+        list.put(Line::new('T').new_table(&table))?;
+        list.put(step.take(&mut table))?;
     }
     Ok(())
 }

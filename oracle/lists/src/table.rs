@@ -1,44 +1,13 @@
-//! A record or round data as 112 words: what lists show and what is compared.
+//! A record or round data as words: what lists show and what is compared.
 
-use crate::amounts;
+use crate::bits;
+use crate::places::{FLOATS, NUMBERS};
 
-pub const WORDS: usize = 112;
+pub use crate::places::place;
+
+pub const WORDS: usize = NUMBERS + FLOATS;
 pub const MAX_SEATS: usize = 16;
 pub const MAX_BOARD: usize = 5;
-
-/// Where each field stands. A list takes one place for each seat or card.
-pub mod place {
-    pub const NUM_PLAYERS: usize = 0;
-    pub const DEALER_IDX: usize = 1;
-    pub const ROUND: usize = 2;
-    pub const ROUND_BEFORE: usize = 3;
-    pub const PLAYER_ACTIVE: usize = 4;
-    pub const PLAYER_ALL_IN: usize = 5;
-    pub const STARTING_PLAYER_ACTIVE: usize = 6;
-    pub const NEEDS_ACTION: usize = 7;
-    pub const TO_ACT_IDX: usize = 8;
-    pub const ROUND_LENGTH: usize = 9;
-    pub const TOTAL_BET_COUNT: usize = 10;
-    pub const TOTAL_RAISE_COUNT: usize = 11;
-    pub const FORCED_BET_COUNT: usize = 12;
-    pub const BB_POSTED: usize = 13;
-    pub const SB_POSTED: usize = 14;
-    pub const HAS_CAP: usize = 15;
-    pub const CAP: usize = 16;
-    pub const BOARD_LENGTH: usize = 17;
-    pub const BOARD: usize = 18;
-    pub const TOTAL_POT: usize = 24;
-    pub const BIG_BLIND: usize = 25;
-    pub const SMALL_BLIND: usize = 26;
-    pub const ANTE: usize = 27;
-    pub const ROUND_BET: usize = 28;
-    pub const MIN_RAISE: usize = 29;
-    pub const STACKS: usize = 32;
-    pub const STARTING_STACKS: usize = 48;
-    pub const HAND_BETS: usize = 64;
-    pub const WINNINGS: usize = 80;
-    pub const ROUND_BETS: usize = 96;
-}
 
 /// The four sets of a record.
 pub const SETS: [usize; 4] = [
@@ -82,7 +51,7 @@ impl Table {
     }
 
     pub fn set_float(&mut self, place: usize, value: f32) {
-        self.words[place] = amounts::bits(value);
+        self.words[place] = bits::of(value);
     }
 
     pub fn set_floats(&mut self, place: usize, values: &[f32]) {

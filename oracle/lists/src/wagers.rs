@@ -1,6 +1,7 @@
 //! Amounts for the bets of a table, many of them on the lines that a rule draws.
 
 use crate::amounts;
+use crate::bits;
 use crate::draw::Draw;
 use crate::table::{Table, place};
 
@@ -46,14 +47,14 @@ fn on_a_line(draw: &mut Draw, lines: &Lines) -> f32 {
         1 => line + tolerance,
         _ => line,
     };
-    amounts::one_nan(amounts::beside(draw, line))
+    bits::one_nan(amounts::beside(draw, line))
 }
 
 /// A raise that play would make: the smallest one or some more.
 pub fn raise(draw: &mut Draw, table: &Table) -> f32 {
     let lines = Lines::of(table);
     let more = draw.pick(&[0.0, 0.0, 1.0, 2.0]) * amounts::whole(draw, 40);
-    amounts::one_nan(lines.bet + lines.min_raise + more)
+    bits::one_nan(lines.bet + lines.min_raise + more)
 }
 
 pub fn forced(draw: &mut Draw, table: &Table) -> f32 {
@@ -62,8 +63,8 @@ pub fn forced(draw: &mut Draw, table: &Table) -> f32 {
         0 => 0.0,
         1..=2 => amounts::whole(draw, 20),
         3 => lines.stack,
-        4 => amounts::one_nan(amounts::beside(draw, lines.stack)),
-        5 => amounts::one_nan(lines.bet - lines.own),
+        4 => bits::one_nan(amounts::beside(draw, lines.stack)),
+        5 => bits::one_nan(lines.bet - lines.own),
         _ => amounts::any(draw),
     }
 }

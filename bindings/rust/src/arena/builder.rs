@@ -4,8 +4,10 @@ use crate::arena::errors::GameStateBuilderError;
 use crate::arena::game_state::GameState;
 use crate::arena::round::Round;
 use crate::arena::round_data::RoundData;
+use crate::library;
+use crate::places::{AMOUNTS, GIVEN, amount, given};
 use crate::sys;
-use crate::words::{Words, seat};
+use crate::words::{MAX_PLAYERS, Words, seat};
 
 /// What is given of a table; the rest has the Rust's defaults.
 #[derive(Default, Clone)]
@@ -67,7 +69,8 @@ impl GameStateBuilder {
 
     /// So many seats with a stack each.
     pub fn num_players_with_stack(self, n: usize, stack: f32) -> Self {
-        self.stacks(vec![stack; n])
+        // One more than there may be is refused as any more are, and no list need hold them.
+        self.stacks(vec![stack; n.min(MAX_PLAYERS + 1)])
     }
 
     /// Both blinds.
@@ -107,8 +110,8 @@ impl GameStateBuilder {
 
     /// The table, if every test is passed.
     pub fn build(self) -> Result<GameState, GameStateBuilderError> {
-        let amounts = [self.big_blind, self.small_blind, self.ante].map(Option::unwrap_or_default);
-        let given = self.given();
+        library::check();
+        let (amounts, given) = (self.amounts(), self.given());
         let stacks = self.stacks.unwrap_or_default();
         let player_bet = self.player_bet.unwrap_or_default();
         let board = self.board.unwrap_or_default();
@@ -139,26 +142,34 @@ impl GameStateBuilder {
         }
     }
 
-    /// What is given, in the boundary's order.
-    fn given(&self) -> [u32; 16] {
+    fn amounts(&self) -> [f32; AMOUNTS] {
+        let mut amounts = [0.0; AMOUNTS];
+        amounts[amount::BIG_BLIND] = self.big_blind.unwrap_or_default();
+        amounts[amount::SMALL_BLIND] = self.small_blind.unwrap_or_default();
+        amounts[amount::ANTE] = self.ante.unwrap_or_default();
+        amounts
+    }
+
+    /// What is given, and its number.
+    fn given(&self) -> [u32; GIVEN] {
         let cap = self.max_raises_per_round.flatten();
-        [
-            self.stacks.is_some() as u32,
-            self.big_blind.is_some() as u32,
-            self.small_blind.is_some() as u32,
-            self.ante.is_some() as u32,
-            self.dealer_idx.is_some() as u32,
-            seat(self.dealer_idx.unwrap_or(0)),
-            self.max_raises_per_round.is_some() as u32,
-            cap.is_some() as u32,
-            cap.unwrap_or(0).into(),
-            self.round.is_some() as u32,
-            self.round.unwrap_or_default() as u32,
-            self.board.is_some() as u32,
-            self.hands.is_some() as u32,
-            seat(self.hands.unwrap_or(0)),
-            self.player_bet.is_some() as u32,
-            self.round_data.is_some() as u32,
-        ]
+        let mut words = [0; GIVEN];
+        words[given::STACKS] = self.stacks.is_some().into();
+        words[given::BIG_BLIND] = self.big_blind.is_some().into();
+        words[given::SMALL_BLIND] = self.small_blind.is_some().into();
+        words[given::ANTE] = self.ante.is_some().into();
+        words[given::DEALER] = self.dealer_idx.is_some().into();
+        words[given::DEALER_IS] = seat(self.dealer_idx.unwrap_or(0));
+        words[given::CAP] = self.max_raises_per_round.is_some().into();
+        words[given::CAP_CAPS] = cap.is_some().into();
+        words[given::CAP_IS] = cap.unwrap_or(0).into();
+        words[given::ROUND] = self.round.is_some().into();
+        words[given::ROUND_IS] = self.round.unwrap_or_default() as u32;
+        words[given::BOARD] = self.board.is_some().into();
+        words[given::HANDS] = self.hands.is_some().into();
+        words[given::HANDS_ARE] = seat(self.hands.unwrap_or(0));
+        words[given::PLAYER_BET] = self.player_bet.is_some().into();
+        words[given::ROUND_DATA] = self.round_data.is_some().into();
+        words
     }
 }

@@ -10,7 +10,9 @@ pub use crate::arena::round::Round;
 pub use crate::arena::round_data::RoundData;
 pub use crate::words::MAX_PLAYERS;
 
-use crate::words::{FLOATS, NUMBERS, Words};
+use crate::library;
+use crate::places::{FLOATS, NUMBERS};
+use crate::words::Words;
 
 /// A table in good shape: a builder, its steps and `from_words` make no other, so steps on it are not refused with 19.
 #[derive(Clone, Debug, PartialEq)]
@@ -19,13 +21,14 @@ pub struct GameState {
 }
 
 impl GameState {
-    /// The two arrays, in the boundary's order.
+    /// The two arrays; `places` tells what stands where.
     pub fn words(&self) -> (&[f32; FLOATS], &[u32; NUMBERS]) {
         (&self.words.floats, &self.words.numbers)
     }
 
     /// The table that stands in two arrays, if it is sound.
     pub fn from_words(floats: [f32; FLOATS], numbers: [u32; NUMBERS]) -> Option<Self> {
+        library::check();
         let state = GameState { words: Words { floats, numbers } };
         state.is_sound().then_some(state)
     }

@@ -1,29 +1,15 @@
 //! The bets of one round.
 
-use crate::arena::errors::GameStateError;
+mod calls;
+
 use crate::core::PlayerBitSet;
-use crate::sys;
-use crate::words::{Words, float, number, seat};
+use crate::places::{float, number};
+use crate::words::{MAX_PLAYERS, Words};
 
 /// Round data alone. It stands at the round's places of two arrays, as it crosses the boundary.
 #[derive(Clone, Debug, PartialEq)]
 pub struct RoundData {
     pub(crate) words: Words,
-}
-
-/// The two arrays with their lengths, as a call that writes takes them.
-macro_rules! call {
-    ($step:ident, $words:expr $(, $more:expr)*) => {{
-        let (floats, numbers) = (&mut $words.floats, &mut $words.numbers);
-        // SAFETY: the arrays are there, are this long and do not overlap.
-        unsafe {
-            sys::$step(floats.as_mut_ptr(), floats.len(), numbers.as_mut_ptr(), numbers.len() $(, $more)*)
-        }
-    }};
-}
-
-fn done(refused: u32) -> Result<(), GameStateError> {
-    if refused == 0 { Ok(()) } else { Err(GameStateError::of(refused)) }
 }
 
 impl RoundData {
@@ -35,82 +21,9 @@ impl RoundData {
         for place in [float::ROUND_BET, float::MIN_RAISE] {
             words.floats[place] = table.floats[place];
         }
-        words.floats[float::ROUND_BETS..].copy_from_slice(&table.floats[float::ROUND_BETS..]);
+        let bets = float::ROUND_BETS..float::ROUND_BETS + MAX_PLAYERS;
+        words.floats[bets.clone()].copy_from_slice(&table.floats[bets]);
         RoundData { words }
-    }
-
-    /// No bets yet; refused for 0 or more than 16 seats, or a seat outside.
-    pub fn new(
-        num_players: usize,
-        min_raise: f32,
-        active: PlayerBitSet,
-        to_act: usize,
-    ) -> Result<Self, GameStateError> {
-        let mut words = Words::ZEROS;
-        let (players, to_act) = (seat(num_players), seat(to_act));
-        done(call!(peatcloak_round_new, words, players, min_raise, active.bits(), to_act))?;
-        Ok(RoundData { words })
-    }
-
-    /// These bets, with the bet and the counts that they tell; refused as `new` is.
-    pub fn new_with_bets(
-        min_raise: f32,
-        active: PlayerBitSet,
-        to_act: usize,
-        player_bet: impl AsRef<[f32]>,
-    ) -> Result<Self, GameStateError> {
-        let mut words = Words::ZEROS;
-        let (active, to_act) = (active.bits(), seat(to_act));
-        let (bets, count) = (player_bet.as_ref().as_ptr(), player_bet.as_ref().len());
-        let step =
-            call!(peatcloak_round_new_with_bets, words, min_raise, active, to_act, bets, count);
-        done(step)?;
-        Ok(RoundData { words })
-    }
-
-    /// The turn goes to the next seat that owes.
-    pub fn advance_action(&mut self) {
-        done(call!(peatcloak_round_advance_action, self.words)).expect("round data is made sound");
-    }
-
-    /// The seat to act puts so much in; refused where a counter is full.
-    pub fn do_bet(&mut self, extra_amount: f32, is_forced: bool) -> Result<(), GameStateError> {
-        done(call!(peatcloak_round_do_bet, self.words, extra_amount, is_forced as u32))
-    }
-
-    /// How many seats owe an action.
-    pub fn num_players_need_action(&self) -> usize {
-        self.asked().1[0] as usize
-    }
-
-    /// Whether there were forced bets only.
-    pub fn is_action_unopened(&self) -> bool {
-        self.asked().1[1] != 0
-    }
-
-    /// The bet of the seat to act.
-    pub fn current_player_bet(&self) -> f32 {
-        self.asked().0[0]
-    }
-
-    fn asked(&self) -> ([f32; 1], [u32; 3]) {
-        let (mut amounts, mut answers) = ([0.0; 1], [0; 3]);
-        let Words { floats, numbers } = &self.words;
-        // SAFETY: the arrays are there, are this long and do not overlap.
-        let refused = unsafe {
-            sys::peatcloak_round_queries(
-                floats.as_ptr(),
-                floats.len(),
-                numbers.as_ptr(),
-                numbers.len(),
-                amounts.as_mut_ptr(),
-                amounts.len(),
-                answers.as_mut_ptr(),
-                answers.len(),
-            )
-        };
-        debug_assert_eq!(refused, 0, "the arrays are long enough");
-        (amounts, answers)
     }
 
     /// Who was active at its start.

@@ -2,22 +2,23 @@
 #![allow(dead_code, reason = "no test uses all of it")]
 
 use peatcloak::arena::GameState;
+use peatcloak::places::{AMOUNTS, FLOATS, GIVEN, NUMBERS, amount, given};
 use peatcloak::sys;
 
 #[derive(Clone)]
 pub struct Words {
-    pub floats: [f32; 88],
-    pub numbers: [u32; 24],
+    pub floats: [f32; FLOATS],
+    pub numbers: [u32; NUMBERS],
 }
 
 /// A call that writes, and what it answers.
 macro_rules! call {
-    ($step:ident, $words:expr $(, $more:expr)*) => {{
+    ($step:path, $words:expr $(, $more:expr)*) => {{
         let before = $words.bits();
         let Words { floats, numbers } = &mut *$words;
         // SAFETY: the arrays are there, are this long and do not overlap.
         let refused = unsafe {
-            sys::$step(floats.as_mut_ptr(), floats.len(), numbers.as_mut_ptr(), numbers.len() $(, $more)*)
+            $step(floats.as_mut_ptr(), floats.len(), numbers.as_mut_ptr(), numbers.len() $(, $more)*)
         };
         assert!(refused == 0 || $words.bits() == before, "a refused call has written");
         refused
@@ -25,48 +26,53 @@ macro_rules! call {
 }
 
 impl Words {
-    pub const ZEROS: Words = Words { floats: [0.0; 88], numbers: [0; 24] };
+    pub const ZEROS: Words = Words { floats: [0.0; FLOATS], numbers: [0; NUMBERS] };
 
     pub fn of(state: &GameState) -> Self {
         let (&floats, &numbers) = state.words();
         Words { floats, numbers }
     }
 
-    pub fn bits(&self) -> ([u32; 88], [u32; 24]) {
+    pub fn bits(&self) -> ([u32; FLOATS], [u32; NUMBERS]) {
         (self.floats.map(f32::to_bits), self.numbers)
     }
 
     pub fn do_bet(&mut self, amount: f32, is_forced: bool) -> u32 {
-        call!(peatcloak_do_bet, self, amount, is_forced.into())
+        call!(sys::peatcloak_do_bet, self, amount, is_forced.into())
     }
 
     pub fn fold(&mut self) -> u32 {
-        call!(peatcloak_fold, self)
+        call!(sys::peatcloak_fold, self)
     }
 
     pub fn advance_round(&mut self) -> u32 {
-        call!(peatcloak_advance_round, self)
+        call!(sys::peatcloak_advance_round, self)
     }
 
     pub fn complete(&mut self) -> u32 {
-        call!(peatcloak_complete, self)
+        call!(sys::peatcloak_complete, self)
     }
 
     pub fn award(&mut self, seat: u32, amount: f32) -> u32 {
-        call!(peatcloak_award, self, seat, amount)
+        call!(sys::peatcloak_award, self, seat, amount)
     }
 
     pub fn settle(&mut self) -> u32 {
-        let (ranks, mut rewards) = ([0; 16], [0; 16]);
-        call!(peatcloak_settle, self, ranks.as_ptr(), 16, rewards.as_mut_ptr(), 16)
+        let (ranks, mut rewards) = ([0; 16], [7; 16]);
+        let refused =
+            call!(sys::peatcloak_settle, self, ranks.as_ptr(), 16, rewards.as_mut_ptr(), 16);
+        assert!(refused == 0 || rewards == [7; 16], "a refused call has written");
+        refused
     }
 
-    pub fn run_bets(&mut self) -> u32 {
-        call!(peatcloak_run_bets, self, [10.0].as_ptr(), 1)
+    #[cfg(feature = "parts")]
+    pub fn run_bets(&mut self, amounts: &[f32]) -> u32 {
+        call!(peatcloak::parts::peatcloak_run_bets, self, amounts.as_ptr(), amounts.len())
     }
 
+    /// The refusal and the reward, 0 where it is refused.
     pub fn player_reward(&self, seat: u32) -> (u32, f32) {
-        let mut reward = 0.0;
+        let mut reward = 7.5;
         let Words { floats, numbers } = self;
         // SAFETY: the arrays are there, are this long and do not overlap.
         let refused = unsafe {
@@ -80,7 +86,8 @@ impl Words {
                 1,
             )
         };
-        (refused, reward)
+        assert!(refused == 0 || reward == 7.5, "a refused call has written");
+        (refused, if refused == 0 { reward } else { 0.0 })
     }
 
     /// The refusal, the six amounts and the seven answers.
@@ -105,17 +112,20 @@ impl Words {
     }
 
     pub fn current_round_player_bet(&self, seat: u32) -> f32 {
-        self.queries(seat).1[4]
+        let (_, [.., bet, _], _) = self.queries(seat);
+        bet
     }
 
     /// A build with stacks, a big blind and the round data that stands here.
     pub fn build_with_its_round_data(&mut self, stacks: &[f32], big_blind: f32) -> u32 {
-        let amounts = [big_blind, 0.0, 0.0];
-        let mut given = [0; 16];
-        (given[0], given[1], given[15]) = (1, 1, 1);
+        let (mut amounts, mut given) = ([0.0; AMOUNTS], [0; GIVEN]);
+        amounts[amount::BIG_BLIND] = big_blind;
+        for place in [given::STACKS, given::BIG_BLIND, given::ROUND_DATA] {
+            given[place] = 1;
+        }
         let nothing = [0];
         call!(
-            peatcloak_build,
+            sys::peatcloak_build,
             self,
             stacks.as_ptr(),
             stacks.len(),
@@ -131,7 +141,7 @@ impl Words {
     }
 
     pub fn round_new(mut self, n: u32, min_raise: f32, active: u16, to_act: u32) -> u32 {
-        call!(peatcloak_round_new, &mut self, n, min_raise, active, to_act)
+        call!(sys::peatcloak_round_new, &mut self, n, min_raise, active, to_act)
     }
 
     pub fn round_new_with_bets(
@@ -142,20 +152,29 @@ impl Words {
         bets: &[f32],
     ) -> u32 {
         let (first, count) = (bets.as_ptr(), bets.len());
-        call!(peatcloak_round_new_with_bets, &mut self, min_raise, active, to_act, first, count)
+        call!(
+            sys::peatcloak_round_new_with_bets,
+            &mut self,
+            min_raise,
+            active,
+            to_act,
+            first,
+            count
+        )
     }
 
     pub fn round_do_bet(&mut self, extra: f32, is_forced: bool) -> u32 {
-        call!(peatcloak_round_do_bet, self, extra, is_forced.into())
+        call!(sys::peatcloak_round_do_bet, self, extra, is_forced.into())
     }
 
     /// What `advance_action`, `do_bet` of 1 and `current_player_bet` of the round data here are refused with.
     pub fn refused_round(&self) -> [u32; 3] {
         let (mut walk, mut bet) = (self.clone(), self.clone());
+        let (_, _, [.., bet_refused]) = self.round_queries();
         [
-            call!(peatcloak_round_advance_action, &mut walk),
+            call!(sys::peatcloak_round_advance_action, &mut walk),
             bet.round_do_bet(1.0, false),
-            self.round_queries().2[2],
+            bet_refused,
         ]
     }
 

@@ -15,27 +15,9 @@ Inv-loop len list n any₀ i₀ any i = (i ≤ n) × (any ≡ anyInvalid i list)
 abbrev μ-loop : tie.MeasureT-loop
 μ-loop len list n any₀ i₀ any i = n - i
 
-smaller-requires : tie.Need-smaller-requires Inv-loop μ-loop
-smaller-requires c κs = search needs
-
 loop-holds : tie.Need-loop-holds Inv-loop μ-loop
 unfolding anyInvalid
 loop-holds c = (omega arith, refl)
-
-mul-is-invalid : tie.Need-mul-is-invalid Inv-loop μ-loop
-mul-is-invalid c = omega arith
-
-array-read-is-invalid : tie.Need-array-read-is-invalid Inv-loop μ-loop
-array-read-is-invalid c = omega arith
-
-is-invalid-requires : tie.Need-is-invalid-requires Inv-loop μ-loop
-is-invalid-requires c κs = search needs
-
-add-i : tie.Need-add-i Inv-loop μ-loop
-add-i c = omega arith
-
-loop-less : tie.Need-loop-less Inv-loop μ-loop
-loop-less c = omega arith
 
 loop-again : tie.Need-loop-again Inv-loop μ-loop
 loop-again c = (omega arith, invalid-next _ _ _ _ (c .before .before .loop .inv .1) (c .is-invalid .ensures))
@@ -49,12 +31,12 @@ any-invalid-spec =
     (tie.spec
     Inv-loop
     μ-loop
-    smaller-requires
+    (λ c κs. search needs)
     loop-holds
-    mul-is-invalid
-    array-read-is-invalid
-    is-invalid-requires
-    add-i
-    loop-less
+    (λ c. omega arith)
+    (λ c. omega arith)
+    (λ c κs. search needs)
+    (λ c. omega arith)
+    (λ c. omega arith)
     loop-again
     returns)

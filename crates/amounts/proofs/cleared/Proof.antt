@@ -6,8 +6,8 @@ use borrow.Author.Needs.{needs}
 use lib.ListN.{getD}
 use lib.Ieee.{nan, ofBits}
 use Rattle.floats.specs.Helpers.{zerof}
-use Rattle.amounts.specs.Filled.{filled}
-use Rattle.amounts.proofs.Filled.{filled-none, filled-next, filled-end}
+use Rattle.commons.specs.Filled.{filled}
+use Rattle.commons.proofs.Filled.{filled-none, filled-next, filled-end}
 use mathlib.Core.Path.{sym}
 use Rattle.amounts.proofs.cleared.Statement.{statement}
 use Rattle.amounts.proofs.cleared.Tie as tie
@@ -18,24 +18,9 @@ Inv-loop len n out₀ i₀ out i = (i ≤ n) × (out ≡ filled i out₀ (λ k. 
 abbrev μ-loop : tie.MeasureT-loop
 μ-loop len n out₀ i₀ out i = n - i
 
-smaller-requires : tie.Need-smaller-requires Inv-loop μ-loop
-smaller-requires c κs = search needs
-
 loop-holds : tie.Need-loop-holds Inv-loop μ-loop
 unfolding ofBits
 loop-holds c = (omega arith, filled-none _ _)
-
-mul-out : tie.Need-mul-out Inv-loop μ-loop
-mul-out c = omega arith
-
-array-write-out : tie.Need-array-write-out Inv-loop μ-loop
-array-write-out c = omega arith
-
-add-i : tie.Need-add-i Inv-loop μ-loop
-add-i c = omega arith
-
-loop-less : tie.Need-loop-less Inv-loop μ-loop
-loop-less c = omega arith
 
 loop-again : tie.Need-loop-again Inv-loop μ-loop
 unfolding ofBits
@@ -51,11 +36,11 @@ cleared-spec =
     (tie.spec
     Inv-loop
     μ-loop
-    smaller-requires
+    (λ c κs. search needs)
     loop-holds
-    mul-out
-    array-write-out
-    add-i
-    loop-less
+    (λ c. omega arith)
+    (λ c. omega arith)
+    (λ c. omega arith)
+    (λ c. omega arith)
     loop-again
     returns)

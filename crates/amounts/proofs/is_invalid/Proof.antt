@@ -4,12 +4,9 @@ use borrow.Author.Needs.{needs}
 use Rattle.amounts.proofs.is_invalid.Statement.{statement}
 use Rattle.amounts.proofs.is_invalid.Tie as tie
 
-is-nan-requires : tie.Need-is-nan-requires
-is-nan-requires c κs = search needs
-
 returns : tie.Need-returns
 unfolding ofBits
 returns c = rw (c .is-nan .ensures)
 
 pub is-invalid-spec : {M : Type 1} → statement M
-is-invalid-spec = tie.close (tie.spec is-nan-requires returns)
+is-invalid-spec = tie.close (tie.spec (λ c κs. search needs) returns)

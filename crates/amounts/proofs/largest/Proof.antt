@@ -17,27 +17,9 @@ Inv-loop len list n top₀ i₀ top i = (i ≤ n) × (top ≡ largestOf i list)
 abbrev μ-loop : tie.MeasureT-loop
 μ-loop len list n top₀ i₀ top i = n - i
 
-smaller-requires : tie.Need-smaller-requires Inv-loop μ-loop
-smaller-requires c κs = search needs
-
 loop-holds : tie.Need-loop-holds Inv-loop μ-loop
 unfolding ofBits largestOf
 loop-holds c = (omega arith, refl)
-
-mul-max : tie.Need-mul-max Inv-loop μ-loop
-mul-max c = omega arith
-
-array-read-max : tie.Need-array-read-max Inv-loop μ-loop
-array-read-max c = omega arith
-
-max-requires : tie.Need-max-requires Inv-loop μ-loop
-max-requires c κs = search needs
-
-add-i : tie.Need-add-i Inv-loop μ-loop
-add-i c = omega arith
-
-loop-less : tie.Need-loop-less Inv-loop μ-loop
-loop-less c = omega arith
 
 loop-again : tie.Need-loop-again Inv-loop μ-loop
 unfolding ofBits
@@ -52,12 +34,12 @@ largest-spec =
     (tie.spec
     Inv-loop
     μ-loop
-    smaller-requires
+    (λ c κs. search needs)
     loop-holds
-    mul-max
-    array-read-max
-    max-requires
-    add-i
-    loop-less
+    (λ c. omega arith)
+    (λ c. omega arith)
+    (λ c κs. search needs)
+    (λ c. omega arith)
+    (λ c. omega arith)
     loop-again
     returns)

@@ -17,24 +17,9 @@ Inv-loop len list n total₀ i₀ total i = (i ≤ n) × (total ≡ sumOf i list
 abbrev μ-loop : tie.MeasureT-loop
 μ-loop len list n total₀ i₀ total i = n - i
 
-smaller-requires : tie.Need-smaller-requires Inv-loop μ-loop
-smaller-requires c κs = search needs
-
 loop-holds : tie.Need-loop-holds Inv-loop μ-loop
 unfolding ofBits sumOf
 loop-holds c = (omega arith, refl)
-
-mul-total : tie.Need-mul-total Inv-loop μ-loop
-mul-total c = omega arith
-
-array-read-total : tie.Need-array-read-total Inv-loop μ-loop
-array-read-total c = omega arith
-
-add-i : tie.Need-add-i Inv-loop μ-loop
-add-i c = omega arith
-
-loop-less : tie.Need-loop-less Inv-loop μ-loop
-loop-less c = omega arith
 
 loop-again : tie.Need-loop-again Inv-loop μ-loop
 unfolding ofBits
@@ -49,11 +34,11 @@ sum-spec =
     (tie.spec
     Inv-loop
     μ-loop
-    smaller-requires
+    (λ c κs. search needs)
     loop-holds
-    mul-total
-    array-read-total
-    add-i
-    loop-less
+    (λ c. omega arith)
+    (λ c. omega arith)
+    (λ c. omega arith)
+    (λ c. omega arith)
     loop-again
     returns)

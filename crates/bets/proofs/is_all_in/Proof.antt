@@ -4,21 +4,9 @@ use borrow.Author.Needs.{needs}
 use Rattle.bets.proofs.is_all_in.Statement.{statement}
 use Rattle.bets.proofs.is_all_in.Tie as tie
 
-abs-requires : tie.Need-abs-requires
-abs-requires c κs = search needs
-
-abs-requires-2 : tie.Need-abs-requires-2
-abs-requires-2 c κs = search needs
-
-max-requires : tie.Need-max-requires
-max-requires c κs = search needs
-
-tol-requires : tie.Need-tol-requires
-tol-requires c κs = search needs
-
 returns : tie.Need-returns
 unfolding ofBits
 returns c = rw (c .tol .ensures, c .before .max .ensures, c .before .before .abs2 .ensures, c .before .before .before .abs .ensures)
 
 pub is-all-in-spec : {M : Type 1} → statement M
-is-all-in-spec = tie.close (tie.spec abs-requires abs-requires-2 max-requires tol-requires returns)
+is-all-in-spec = tie.close (tie.spec (λ c κs. search needs) (λ c κs. search needs) (λ c κs. search needs) (λ c κs. search needs) returns)

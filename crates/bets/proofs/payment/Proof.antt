@@ -3,11 +3,8 @@ use borrow.Author.Needs.{needs}
 use Rattle.bets.proofs.payment.Statement.{statement}
 use Rattle.bets.proofs.payment.Tie as tie
 
-min-requires : tie.Need-min-requires
-min-requires c κs = search needs
-
 returns : tie.Need-returns
 returns c = c .min .ensures
 
 pub payment-spec : {M : Type 1} → statement M
-payment-spec = tie.close (tie.spec min-requires returns)
+payment-spec = tie.close (tie.spec (λ c κs. search needs) returns)

@@ -4,12 +4,9 @@ use borrow.Author.Needs.{needs}
 use Rattle.bets.proofs.raise_by.Statement.{statement}
 use Rattle.bets.proofs.raise_by.Tie as tie
 
-max-requires : tie.Need-max-requires
-max-requires c κs = search needs
-
 returns : tie.Need-returns
 unfolding ofBits
 returns c = c .max .ensures
 
 pub raise-by-spec : {M : Type 1} → statement M
-raise-by-spec = tie.close (tie.spec max-requires returns)
+raise-by-spec = tie.close (tie.spec (λ c κs. search needs) returns)

@@ -5,9 +5,9 @@ use native.Mathlib.Omega.{arith}
 use mathlib.Core.Path.{_≡_, refl, sym}
 use lib.ListN.{getD}
 use lib.Ieee.{nan}
-use Rattle.chips.specs.Sums.{allTo}
+use Rattle.commons.specs.Folds.{allTo}
 use Rattle.chips.specs.Whole.{isWhole, allWhole}
-use Rattle.chips.proofs.Sums.{all-next}
+use Rattle.commons.proofs.Folds.{all-next}
 use Rattle.chips.proofs.Lists.{too-long}
 use Rattle.chips.proofs.all_whole.Statement.{statement}
 use Rattle.chips.proofs.all_whole.Tie as tie
@@ -25,20 +25,8 @@ loop-holds : tie.Need-loop-holds Inv-loop μ-loop
 unfolding allTo
 loop-holds c = (omega arith, refl)
 
-mul-is-whole : tie.Need-mul-is-whole Inv-loop μ-loop
-mul-is-whole c = omega arith
-
-array-read-is-whole : tie.Need-array-read-is-whole Inv-loop μ-loop
-array-read-is-whole c = omega arith
-
 is-whole-requires : tie.Need-is-whole-requires Inv-loop μ-loop
 is-whole-requires c κs = tt
-
-add-i : tie.Need-add-i Inv-loop μ-loop
-add-i c = omega arith
-
-loop-less : tie.Need-loop-less Inv-loop μ-loop
-loop-less c = omega arith
 
 loop-again : tie.Need-loop-again Inv-loop μ-loop
 loop-again c = (omega arith, all-next _ _ _ _ (c .before .before .loop .inv .1) (c .is-whole .ensures))
@@ -55,10 +43,10 @@ all-whole-spec =
     μ-loop
     returns
     loop-holds
-    mul-is-whole
-    array-read-is-whole
+    (λ c. omega arith)
+    (λ c. omega arith)
     is-whole-requires
-    add-i
-    loop-less
+    (λ c. omega arith)
+    (λ c. omega arith)
     loop-again
     returns-2)

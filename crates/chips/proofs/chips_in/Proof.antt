@@ -7,9 +7,6 @@ use Rattle.chips.proofs.Whole.{whole-between, castable, cast-is, part-l
 use Rattle.chips.proofs.chips_in.Statement.{statement}
 use Rattle.chips.proofs.chips_in.Tie as tie
 
-is-whole-requires : tie.Need-is-whole-requires
-is-whole-requires c κs = search needs
-
 truncating-f32-to-u64-requires : tie.Need-truncating-f32-to-u64-requires
 truncating-f32-to-u64-requires c κs = castable _ (whole-between _ (sym (c .before .is-whole .ensures) ∙ c .if1 .taken))
 
@@ -31,4 +28,4 @@ returns-2 c = simp (sym (c .before .is-whole .ensures) ∙ c .if1 .left)
 pub chips-in-spec : {M : Type 1} → statement M
 chips-in-spec =
     tie.close
-    (tie.spec is-whole-requires truncating-f32-to-u64-requires cast-result returns returns-2)
+    (tie.spec (λ c κs. search needs) truncating-f32-to-u64-requires cast-result returns returns-2)

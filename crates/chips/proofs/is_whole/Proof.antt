@@ -15,9 +15,6 @@ cast-k : tie.Need-cast-k
 unfolding ofBits ofInt
 cast-k c = let b = in-range _ (c .before .if1 .taken) in record { fits = omega (arith, c .truncating-f32-to-u64 .ensures ∙ cast-is _ b, part-le _ b) }
 
-int-to-float-result : tie.Need-int-to-float-result
-int-to-float-result c = search needs
-
 returns : tie.Need-returns
 unfolding ofBits ofInt
 returns c = tested _ _ (c .before .before .if1 .taken) (c .before .truncating-f32-to-u64 .ensures)
@@ -29,4 +26,4 @@ returns-2 c = untested _ (c .if1 .left)
 pub is-whole-spec : {M : Type 1} → statement M
 is-whole-spec =
     tie.close
-    (tie.spec truncating-f32-to-u64-requires cast-k int-to-float-result returns returns-2)
+    (tie.spec truncating-f32-to-u64-requires cast-k (λ c. search needs) returns returns-2)

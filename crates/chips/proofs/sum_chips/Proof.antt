@@ -4,9 +4,9 @@ use native.Mathlib.Omega.{arith}
 use mathlib.Core.Path.{_≡_, refl, _∙_}
 use lib.ListN.{length, getD}
 use lib.Ieee.{nan}
-use Rattle.chips.specs.Sums.{sumTo}
+use Rattle.commons.specs.Folds.{sumTo}
 use Rattle.chips.specs.Whole.{chipsIn, sumChips}
-use Rattle.chips.proofs.Sums.{sum-next}
+use Rattle.commons.proofs.Folds.{sum-next}
 use Rattle.chips.proofs.Whole.{chips-le}
 use Rattle.chips.proofs.Lists.{sum-le, no-more}
 use Rattle.chips.proofs.sum_chips.Statement.{statement}
@@ -25,12 +25,6 @@ loop-holds : tie.Need-loop-holds Inv-loop μ-loop
 unfolding sumTo
 loop-holds c = (omega arith, refl)
 
-mul-chips-in : tie.Need-mul-chips-in Inv-loop μ-loop
-mul-chips-in c = omega arith
-
-array-read-chips-in : tie.Need-array-read-chips-in Inv-loop μ-loop
-array-read-chips-in c = omega arith
-
 chips-in-requires : tie.Need-chips-in-requires Inv-loop μ-loop
 chips-in-requires c κs = tt
 
@@ -40,12 +34,6 @@ add-sum c =
     let at-loop = c .before .before in
     let l = at-loop .before .before .args .t1 in
     record { fits = omega (arith, at-loop .loop .inv .1, sum-le l (at-loop .loop .i), c .chips-in .ensures, chips-le (getD l (at-loop .loop .i) nan)) }
-
-add-i : tie.Need-add-i Inv-loop μ-loop
-add-i c = omega arith
-
-loop-less : tie.Need-loop-less Inv-loop μ-loop
-loop-less c = omega arith
 
 loop-again : tie.Need-loop-again Inv-loop μ-loop
 loop-again c = (omega arith, sum-next _ _ _ _ (c .before .before .loop .inv .1) (c .chips-in .ensures))
@@ -66,11 +54,11 @@ sum-chips-spec =
     μ-loop
     at-most-16-requires
     loop-holds
-    mul-chips-in
-    array-read-chips-in
+    (λ c. omega arith)
+    (λ c. omega arith)
     chips-in-requires
     add-sum
-    add-i
-    loop-less
+    (λ c. omega arith)
+    (λ c. omega arith)
     loop-again
     returns)

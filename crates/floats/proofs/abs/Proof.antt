@@ -5,9 +5,6 @@ use Rattle.floats.proofs.Laws.{abs-negative, abs-positive}
 use Rattle.floats.proofs.abs.Statement.{statement}
 use Rattle.floats.proofs.abs.Tie as tie
 
-is-sign-negative-requires : tie.Need-is-sign-negative-requires
-is-sign-negative-requires c κs = search needs
-
 returns : tie.Need-returns
 returns c = abs-negative _ (cc)
 
@@ -15,4 +12,4 @@ returns-2 : tie.Need-returns-2
 returns-2 c = abs-positive _ (cc)
 
 pub abs-spec : {M : Type 1} → statement M
-abs-spec = tie.close (tie.spec is-sign-negative-requires returns returns-2)
+abs-spec = tie.close (tie.spec (λ c κs. search needs) returns returns-2)

@@ -5,12 +5,9 @@ use Rattle.floats.specs.Helpers.{nearZero}
 use Rattle.floats.proofs.is_near_zero.Statement.{statement}
 use Rattle.floats.proofs.is_near_zero.Tie as tie
 
-abs-requires : tie.Need-abs-requires
-abs-requires c κs = search needs
-
 returns : tie.Need-returns
 unfolding nearZero ofBits
 returns c = rw (c .abs .ensures)
 
 pub is-near-zero-spec : {M : Type 1} → statement M
-is-near-zero-spec = tie.close (tie.spec abs-requires returns)
+is-near-zero-spec = tie.close (tie.spec (λ c κs. search needs) returns)

@@ -8,9 +8,6 @@ use Rattle.floats.proofs.Laws.{sign-bit, nan-no-sign}
 use Rattle.floats.proofs.is_sign_negative.Statement.{statement}
 use Rattle.floats.proofs.is_sign_negative.Tie as tie
 
-is-nan-requires : tie.Need-is-nan-requires
-is-nan-requires c κs = search needs
-
 returns : tie.Need-returns
 returns c = sym (nan-no-sign _ (sym (c .before .is-nan .ensures) ∙ c .if1 .taken))
 
@@ -21,4 +18,4 @@ returns-2 : tie.Need-returns-2
 returns-2 c = sign-bit _ (search needs) (sym (c .before .is-nan .ensures) ∙ c .if1 .left)
 
 pub is-sign-negative-spec : {M : Type 1} → statement M
-is-sign-negative-spec = tie.close (tie.spec is-nan-requires returns float-to-bits-b returns-2)
+is-sign-negative-spec = tie.close (tie.spec (λ c κs. search needs) returns float-to-bits-b returns-2)

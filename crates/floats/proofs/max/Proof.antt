@@ -5,9 +5,6 @@ use Rattle.floats.specs.Helpers.{maxOf}
 use Rattle.floats.proofs.max.Statement.{statement}
 use Rattle.floats.proofs.max.Tie as tie
 
-is-nan-requires : tie.Need-is-nan-requires
-is-nan-requires c κs = search needs
-
 returns : tie.Need-returns
 unfolding maxOf
 returns c = simp (sym (c .before .is-nan .ensures) ∙ c .if1 .taken)
@@ -21,4 +18,4 @@ unfolding maxOf
 returns-3 c = simp (sym (c .before .before .is-nan .ensures) ∙ c .before .if1 .left, c .if2 .left)
 
 pub max-spec : {M : Type 1} → statement M
-max-spec = tie.close (tie.spec is-nan-requires returns returns-2 returns-3)
+max-spec = tie.close (tie.spec (λ c κs. search needs) returns returns-2 returns-3)

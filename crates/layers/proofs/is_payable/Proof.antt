@@ -6,12 +6,6 @@ use Rattle.layers.proofs.Holding.{pot-limit}
 use Rattle.layers.proofs.is_payable.Statement.{statement}
 use Rattle.layers.proofs.is_payable.Tie as tie
 
-put-in-requires : tie.Need-put-in-requires
-put-in-requires c κs = search needs
-
-contested-requires : tie.Need-contested-requires
-contested-requires c κs = search needs
-
 returns : tie.Need-returns
 unfolding isPayable
 returns c =
@@ -24,4 +18,4 @@ unfolding isPayable
 returns-2 c = rw (lt-leb _ _ (c .if1 .left))
 
 pub is-payable-spec : {M : Type 1} → statement M
-is-payable-spec = tie.close (tie.spec put-in-requires contested-requires returns returns-2)
+is-payable-spec = tie.close (tie.spec (λ c κs. search needs) (λ c κs. search needs) returns returns-2)

@@ -15,38 +15,14 @@ use Rattle.order.specs.GoodOrder.{inGoodOrder}
 use Rattle.order.proofs.in_good_order.Statement.{statement}
 use Rattle.order.proofs.in_good_order.Tie as tie
 
-is-sound-requires : tie.Need-is-sound-requires
-is-sound-requires c κs = search needs
-
 returns : tie.Need-returns
 unfolding inGoodOrder
 returns c = let s = sym (c .before .is-sound .ensures) ∙ not-true _ (c .if1 .taken) in rw s
-
-chips-in-requires : tie.Need-chips-in-requires
-chips-in-requires c κs = search needs
-
-chips-in-requires-2 : tie.Need-chips-in-requires-2
-chips-in-requires-2 c κs = search needs
-
-largest-requires : tie.Need-largest-requires
-largest-requires c κs = search needs
 
 tested-requires : tie.Need-tested-requires
 tested-requires c κs =
     let at-if1 = c .before .before .before .before .before .before .before in
     sound (at-if1 .before .before .args .table) (sym (at-if1 .before .is-sound .ensures) ∙ not-false _ (at-if1 .if1 .left)) .most
-
-has-requires : tie.Need-has-requires
-has-requires c κs = search needs
-
-chips-in-requires-3 : tie.Need-chips-in-requires-3
-chips-in-requires-3 c κs = search needs
-
-chips-in-requires-4 : tie.Need-chips-in-requires-4
-chips-in-requires-4 c κs = search needs
-
-sum-chips-requires : tie.Need-sum-chips-requires
-sum-chips-requires c κs = search needs
 
 add-books : tie.Need-add-books
 add-books c =
@@ -55,27 +31,6 @@ add-books c =
     let t = at-if1 .before .before .args .table in
     let few = sound t (sym (at-if1 .before .is-sound .ensures) ∙ not-false _ (at-if1 .if1 .left)) .most in
     record { fits = omega (arith, c .sum-chips .ensures, sum-le (t .stacks) (t .«num_players»), at-chips-in .chips-in .ensures, chips-le (t .«total_pot»)) }
-
-sum-chips-requires-2 : tie.Need-sum-chips-requires-2
-sum-chips-requires-2 c κs = search needs
-
-all-whole-requires : tie.Need-all-whole-requires
-all-whole-requires c κs = search needs
-
-is-whole-requires : tie.Need-is-whole-requires
-is-whole-requires c κs = search needs
-
-is-whole-requires-2 : tie.Need-is-whole-requires-2
-is-whole-requires-2 c κs = search needs
-
-all-whole-requires-2 : tie.Need-all-whole-requires-2
-all-whole-requires-2 c κs = search needs
-
-is-whole-requires-3 : tie.Need-is-whole-requires-3
-is-whole-requires-3 c κs = search needs
-
-all-whole-requires-3 : tie.Need-all-whole-requires-3
-all-whole-requires-3 c κs = search needs
 
 returns-2 : tie.Need-returns-2
 unfolding inGoodOrder
@@ -116,22 +71,22 @@ pub in-good-order-spec : {M : Type 1} → statement M
 in-good-order-spec =
     tie.close
     (tie.spec
-    is-sound-requires
+    (λ c κs. search needs)
     returns
-    chips-in-requires
-    chips-in-requires-2
-    largest-requires
+    (λ c κs. search needs)
+    (λ c κs. search needs)
+    (λ c κs. search needs)
     tested-requires
-    has-requires
-    chips-in-requires-3
-    chips-in-requires-4
-    sum-chips-requires
+    (λ c κs. search needs)
+    (λ c κs. search needs)
+    (λ c κs. search needs)
+    (λ c κs. search needs)
     add-books
-    sum-chips-requires-2
-    all-whole-requires
-    is-whole-requires
-    is-whole-requires-2
-    all-whole-requires-2
-    is-whole-requires-3
-    all-whole-requires-3
+    (λ c κs. search needs)
+    (λ c κs. search needs)
+    (λ c κs. search needs)
+    (λ c κs. search needs)
+    (λ c κs. search needs)
+    (λ c κs. search needs)
+    (λ c κs. search needs)
     returns-2)

@@ -4,12 +4,9 @@ use borrow.Author.Needs.{needs}
 use Rattle.rounds.proofs.is_sound.Statement.{statement}
 use Rattle.rounds.proofs.is_sound.Tie as tie
 
-is-below-requires : tie.Need-is-below-requires
-is-below-requires c κs = search needs
-
 returns : tie.Need-returns
 unfolding soundParts
 returns c = rw (c .is-below .ensures)
 
 pub is-sound-spec : {M : Type 1} → statement M
-is-sound-spec = tie.close (tie.spec is-below-requires returns)
+is-sound-spec = tie.close (tie.spec (λ c κs. search needs) returns)

@@ -4,12 +4,9 @@ use borrow.Author.Needs.{needs}
 use Rattle.settlement.proofs.hand_of.Statement.{statement}
 use Rattle.settlement.proofs.hand_of.Tie as tie
 
-counted-requires : tie.Need-counted-requires
-counted-requires c κs = search needs
-
 returns : tie.Need-returns
 unfolding firstOf
 returns c = rw (c .counted .ensures)
 
 pub hand-of-spec : {M : Type 1} → statement M
-hand-of-spec = tie.close (tie.spec counted-requires returns)
+hand-of-spec = tie.close (tie.spec (λ c κs. search needs) returns)

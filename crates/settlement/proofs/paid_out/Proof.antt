@@ -3,15 +3,6 @@ use borrow.Author.Needs.{needs}
 use Rattle.settlement.proofs.paid_out.Statement.{statement}
 use Rattle.settlement.proofs.paid_out.Tie as tie
 
-with-awards-requires : tie.Need-with-awards-requires
-with-awards-requires c κs = search needs
-
-with-awards-requires-2 : tie.Need-with-awards-requires-2
-with-awards-requires-2 c κs = search needs
-
-rewards-requires : tie.Need-rewards-requires
-rewards-requires c κs = search needs
-
 returns : tie.Need-returns
 returns c =
     let at-won = c .before in
@@ -19,4 +10,4 @@ returns c =
 
 pub paid-out-spec : {M : Type 1} → statement M
 paid-out-spec =
-    tie.close (tie.spec with-awards-requires with-awards-requires-2 rewards-requires returns)
+    tie.close (tie.spec (λ c κs. search needs) (λ c κs. search needs) (λ c κs. search needs) returns)

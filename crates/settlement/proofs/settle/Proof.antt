@@ -6,29 +6,12 @@ use borrow.Author.Needs.{needs}
 use Rattle.settlement.proofs.settle.Statement.{statement}
 use Rattle.settlement.proofs.settle.Tie as tie
 
-hand-of-requires : tie.Need-hand-of-requires
-hand-of-requires c κs = search needs
-
-is-payable-requires : tie.Need-is-payable-requires
-is-payable-requires c κs = search needs
-
-verdict-requires : tie.Need-verdict-requires
-verdict-requires c κs = search needs
-
-enum-told : tie.Need-enum-told
-enum-told c = search needs
-
-awards-requires : tie.Need-awards-requires
-awards-requires c κs = search needs
-
 paid-out-requires : tie.Need-paid-out-requires
 paid-out-requires c κs =
     let at-verdict = c .before .before .before in
-    let t = at-verdict .before .before .before .args .table in
-    sound t (verdict-paid t _ (sym (at-verdict .verdict .ensures) ∙ c .before .enum-told .given .1) .sounds) .most
-
-enum-known-r : tie.Need-enum-known-r
-enum-known-r c = search needs
+    let at-payable = at-verdict .before in
+    let t = at-payable .before .before .args .table in
+    sound t (verdict-paid t (at-payable .is-payable .result) (sym (at-verdict .verdict .ensures) ∙ c .before .enum-told .given .1) .sounds) .most
 
 returns : tie.Need-returns
 returns c =
@@ -48,12 +31,12 @@ pub settle-spec : {M : Type 1} → statement M
 settle-spec =
     tie.close
     (tie.spec
-    hand-of-requires
-    is-payable-requires
-    verdict-requires
-    enum-told
-    awards-requires
+    (λ c κs. search needs)
+    (λ c κs. search needs)
+    (λ c κs. search needs)
+    (λ c. search needs)
+    (λ c κs. search needs)
     paid-out-requires
-    enum-known-r
+    (λ c. search needs)
     returns
     returns-2)

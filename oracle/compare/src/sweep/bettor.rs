@@ -7,7 +7,7 @@ use lists::refusals;
 use lists::table::{Table, place};
 use rs_poker::arena::GameState;
 
-use crate::boundary::{self, PAID, PASSED};
+use crate::boundary;
 use crate::same;
 use crate::theirs::distance;
 
@@ -69,7 +69,7 @@ impl Bettor {
         let data = &state.round_data;
         let passed = distance(seat, data.to_act_idx, state.num_players);
         let floats = [
-            (PAID, paid),
+            (place::PAID, paid),
             (place::TOTAL_POT, state.total_pot),
             (place::ROUND_BET, data.bet),
             (place::MIN_RAISE, data.min_raise),
@@ -78,7 +78,7 @@ impl Bettor {
             (place::ROUND_BETS + seat, data.player_bet[seat]),
         ];
         let numbers: [(usize, u32); 8] = [
-            (PASSED, passed as u32),
+            (place::PASSED, passed as u32),
             (place::PLAYER_ACTIVE, bits_of(state.player_active).into()),
             (place::PLAYER_ALL_IN, bits_of(state.player_all_in).into()),
             (place::NEEDS_ACTION, bits_of(data.needs_action).into()),
@@ -95,8 +95,8 @@ impl Bettor {
     fn put_back(&mut self) {
         let seat = self.seat;
         let written = [
-            PASSED,
-            PAID,
+            place::PASSED,
+            place::PAID,
             place::PLAYER_ACTIVE,
             place::PLAYER_ALL_IN,
             place::NEEDS_ACTION,

@@ -4,7 +4,7 @@ use super::{GameState, Round, RoundData};
 use crate::arena::errors::GameStateError;
 use crate::arena::round::ROUNDS;
 use crate::core::PlayerBitSet;
-use crate::words::{float, number};
+use crate::places::{float, number};
 
 /// The most cards of a board.
 const MAX_BOARD: usize = 5;

@@ -3,8 +3,9 @@
 use super::GameState;
 use crate::arena::action::AgentAction;
 use crate::arena::errors::GameStateError;
+use crate::places::{float, number};
 use crate::sys;
-use crate::words::{MAX_PLAYERS, float, number, seat};
+use crate::words::{MAX_PLAYERS, seat};
 
 /// A step of the boundary on the table, and what it answers.
 macro_rules! step {

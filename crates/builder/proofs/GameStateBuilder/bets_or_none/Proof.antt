@@ -4,9 +4,6 @@ use borrow.Author.Needs.{needs}
 use Rattle.builder.proofs.GameStateBuilder.bets_or_none.Statement.{statement}
 use Rattle.builder.proofs.GameStateBuilder.bets_or_none.Tie as tie
 
-kept-requires : tie.Need-kept-requires
-kept-requires c κs = search needs
-
 returns : tie.Need-returns
 returns c = simp (c .before .if1 .taken, c .kept .ensures)
 
@@ -15,4 +12,4 @@ unfolding ofBits
 returns-2 c = simp (c .if1 .left)
 
 pub bets-or-none-spec : {M : Type 1} → statement M
-bets-or-none-spec = tie.close (tie.spec kept-requires returns returns-2)
+bets-or-none-spec = tie.close (tie.spec (λ c κs. search needs) returns returns-2)

@@ -1,87 +1,65 @@
 -- `builder::GameStateBuilder::built`: each field is what its callee ensures. Assumes nothing.
 use lib.Ieee.{ofBits}
-use Rattle.builder.proofs.Building as building
 use borrow.Author.Needs.{needs}
+use Prim.Native.Nat.{min}
+use mathlib.Core.Path.{_∙_}
+use mathlib.Core.Bool.{not, _||_}
+use lib.Dec.{eqb}
+use Rattle.amounts.specs.Amounts.{zeros, sumOf}
+use Rattle.table.specs.Rounds.{isRound}
+use Rattle.table.specs.With.{tableOf}
+use Rattle.builder.specs.Build.{seatsOf, activeSeats, allInSeats, dataFor, builtOf}
+use Rattle.builder.specs.Cards.{cardsTo}
 use Rattle.builder.proofs.GameStateBuilder.built.Statement.{statement}
 use Rattle.builder.proofs.GameStateBuilder.built.Tie as tie
 
-kept-requires : tie.Need-kept-requires
-kept-requires c κs = search needs
-
-bets-or-none-requires : tie.Need-bets-or-none-requires
-bets-or-none-requires c κs = search needs
-
-round-or-starting-requires : tie.Need-round-or-starting-requires
-round-or-starting-requires c κs = search needs
-
-number-requires : tie.Need-number-requires
-number-requires c κs = search needs
-
-number-or-requires : tie.Need-number-or-requires
-number-or-requires c κs = search needs
-
-number-or-requires-2 : tie.Need-number-or-requires-2
-number-or-requires-2 c κs = search needs
-
-kept-cards-requires : tie.Need-kept-cards-requires
-kept-cards-requires c κs = search needs
-
-active-seats-requires : tie.Need-active-seats-requires
-active-seats-requires c κs = search needs
-
-all-in-seats-requires : tie.Need-all-in-seats-requires
-all-in-seats-requires c κs = search needs
-
-sum-requires : tie.Need-sum-requires
-sum-requires c κs = search needs
-
-small-blind-or-half-requires : tie.Need-small-blind-or-half-requires
-small-blind-or-half-requires c κs = search needs
-
-amount-or-requires : tie.Need-amount-or-requires
-amount-or-requires c κs = search needs
-
-data-for-requires : tie.Need-data-for-requires
-data-for-requires c κs = search needs
-
-cap-or-three-requires : tie.Need-cap-or-three-requires
-cap-or-three-requires c κs = search needs
-
 returns : tie.Need-returns
-unfolding ofBits
+unfolding ofBits builtOf
 returns c =
-    let at-data-for = c .before .before .before in
-    let at-amount-or = at-data-for .before in
-    let at-small-blind-or-half = at-amount-or .before in
-    let at-sum = at-small-blind-or-half .before in
-    let at-all-in-seats = at-sum .before in
-    let at-active-seats = at-all-in-seats .before in
-    let at-kept-cards = at-active-seats .before in
-    let at-number-or2 = at-kept-cards .before .before .before in
-    let at-number-or = at-number-or2 .before in
-    let at-number = at-number-or .before in
-    let at-round-or-starting = at-number .before in
-    let at-bets-or-none = at-round-or-starting .before in
-    let at-kept = at-bets-or-none .before in
-    building.built _ _ _ _ _ _ _ _ _ _ _ _ _ _ _
-    (at-kept .kept .ensures) (at-bets-or-none .bets-or-none .ensures) (at-round-or-starting .round-or-starting .ensures) (at-number .number .ensures) (at-number-or .number-or .ensures) (at-number-or2 .number-or2 .ensures) (at-kept-cards .kept-cards .ensures) (at-active-seats .active-seats .ensures) (at-all-in-seats .all-in-seats .ensures) (at-sum .sum .ensures) (at-small-blind-or-half .small-blind-or-half .ensures) (at-amount-or .amount-or .ensures) (at-data-for .data-for .ensures) (c .cap-or-three .ensures)
+    let at-data = c .before .before .before in
+    let at-ante = at-data .before in
+    let at-small = at-ante .before in
+    let at-sum = at-small .before in
+    let at-all-in = at-sum .before in
+    let at-active = at-all-in .before in
+    let at-cards = at-active .before .before in
+    let at-len = at-cards .before .before .before in
+    let at-dealer = at-len .before in
+    let at-number = at-dealer .before in
+    let at-round = at-number .before in
+    let at-bets = at-round .before in
+    let b = at-bets .before .before .before .before .args .self in
+    let stacks = at-bets .before .kept .ensures in
+    let bets = at-bets .bets-or-none .ensures in
+    let now = at-round .round-or-starting .ensures in
+    let starting = (λ i. eqb (at-number .number .ensures i) 0) ∙ λ i. isRound (now i) 0 in
+    let dealer = at-dealer .number-or .ensures in
+    let len = at-len .number-or2 .ensures in
+    let active = at-active .active-seats .ensures ∙ λ i. activeSeats (starting i) (seatsOf b) (stacks i) (bets i) in
+    let all-in = at-all-in .all-in-seats .ensures ∙ λ i. allInSeats (starting i) (seatsOf b) (stacks i) (bets i) in
+    let pot = at-sum .sum .ensures ∙ λ i. sumOf (min (seatsOf b) 16) (bets i) in
+    let board = at-cards .kept-cards .ensures ∙ λ i. cardsTo (len i) (b .board .list) in
+    let given = at-data .data-for .ensures ∙ λ i. dataFor b (dealer i) in
+    λ i. tableOf (seatsOf b) (active i) (all-in i) (pot i) (stacks i) (stacks i) (bets i) zeros (b .«big_blind» .value) (at-small .small-blind-or-half .ensures i)
+    (at-ante .amount-or .ensures i) (dealer i) (now i) (now i) (given i) (board i) (len i) (not (starting i)) (not (starting i))
+    (not (b .«max_raises_per_round» .given) || b .«max_raises_per_round» .capped) (c .cap-or-three .ensures i) (b .added)
 
 pub built-spec : {M : Type 1} → statement M
 built-spec =
     tie.close
     (tie.spec
-    kept-requires
-    bets-or-none-requires
-    round-or-starting-requires
-    number-requires
-    number-or-requires
-    number-or-requires-2
-    kept-cards-requires
-    active-seats-requires
-    all-in-seats-requires
-    sum-requires
-    small-blind-or-half-requires
-    amount-or-requires
-    data-for-requires
-    cap-or-three-requires
+    (λ c κs. search needs)
+    (λ c κs. search needs)
+    (λ c κs. search needs)
+    (λ c κs. search needs)
+    (λ c κs. search needs)
+    (λ c κs. search needs)
+    (λ c κs. search needs)
+    (λ c κs. search needs)
+    (λ c κs. search needs)
+    (λ c κs. search needs)
+    (λ c κs. search needs)
+    (λ c κs. search needs)
+    (λ c κs. search needs)
+    (λ c κs. search needs)
     returns)

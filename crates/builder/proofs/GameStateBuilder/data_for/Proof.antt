@@ -5,19 +5,13 @@ use borrow.Author.Needs.{needs}
 use Rattle.builder.proofs.GameStateBuilder.data_for.Statement.{statement}
 use Rattle.builder.proofs.GameStateBuilder.data_for.Tie as tie
 
-kept-requires : tie.Need-kept-requires
-kept-requires c κs = search needs
-
 returns : tie.Need-returns
 unfolding dataFor
 returns c = simp (c .before .before .if1 .taken, c .kept .ensures)
-
-up-to-requires : tie.Need-up-to-requires
-up-to-requires c κs = search needs
 
 returns-2 : tie.Need-returns-2
 unfolding dataFor ofBits
 returns-2 c = simp (c .before .if1 .left, c .up-to .ensures)
 
 pub data-for-spec : {M : Type 1} → statement M
-data-for-spec = tie.close (tie.spec kept-requires returns up-to-requires returns-2)
+data-for-spec = tie.close (tie.spec (λ c κs. search needs) returns (λ c κs. search needs) returns-2)

@@ -5,11 +5,8 @@ use Rattle.builder.proofs.GameStateBuilder.num_players_with_stack.State
 }
 use Rattle.builder.proofs.GameStateBuilder.num_players_with_stack.Tie as tie
 
-kept-requires : tie.Need-kept-requires
-kept-requires c κs = search needs
-
 returns : tie.Need-returns
 returns c = rw (c .kept .ensures)
 
 pub num-players-with-stack-spec : {M : Type 1} → statement M
-num-players-with-stack-spec = tie.close (tie.spec kept-requires returns)
+num-players-with-stack-spec = tie.close (tie.spec (λ c κs. search needs) returns)

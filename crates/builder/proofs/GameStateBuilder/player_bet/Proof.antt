@@ -3,11 +3,8 @@ use borrow.Author.Needs.{needs}
 use Rattle.builder.proofs.GameStateBuilder.player_bet.Statement.{statement}
 use Rattle.builder.proofs.GameStateBuilder.player_bet.Tie as tie
 
-of-slice-requires : tie.Need-of-slice-requires
-of-slice-requires c κs = search needs
-
 returns : tie.Need-returns
 returns c = rw (c .of-slice .ensures)
 
 pub player-bet-spec : {M : Type 1} → statement M
-player-bet-spec = tie.close (tie.spec of-slice-requires returns)
+player-bet-spec = tie.close (tie.spec (λ c κs. search needs) returns)

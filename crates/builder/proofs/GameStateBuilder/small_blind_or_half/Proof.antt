@@ -5,12 +5,9 @@ use borrow.Author.Needs.{needs}
 use Rattle.builder.proofs.GameStateBuilder.small_blind_or_half.Statement.{statement}
 use Rattle.builder.proofs.GameStateBuilder.small_blind_or_half.Tie as tie
 
-amount-or-requires : tie.Need-amount-or-requires
-amount-or-requires c κs = search needs
-
 returns : tie.Need-returns
 unfolding smallBlindOf ofBits
 returns c = rw (c .amount-or .ensures)
 
 pub small-blind-or-half-spec : {M : Type 1} → statement M
-small-blind-or-half-spec = tie.close (tie.spec amount-or-requires returns)
+small-blind-or-half-spec = tie.close (tie.spec (λ c κs. search needs) returns)

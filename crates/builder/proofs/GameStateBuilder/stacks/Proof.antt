@@ -3,11 +3,8 @@ use borrow.Author.Needs.{needs}
 use Rattle.builder.proofs.GameStateBuilder.stacks.Statement.{statement}
 use Rattle.builder.proofs.GameStateBuilder.stacks.Tie as tie
 
-of-slice-requires : tie.Need-of-slice-requires
-of-slice-requires c κs = search needs
-
 returns : tie.Need-returns
 returns c = rw (c .of-slice .ensures)
 
 pub stacks-spec : {M : Type 1} → statement M
-stacks-spec = tie.close (tie.spec of-slice-requires returns)
+stacks-spec = tie.close (tie.spec (λ c κs. search needs) returns)

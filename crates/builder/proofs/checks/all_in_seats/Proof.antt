@@ -17,36 +17,9 @@ Inv-loop starting len stacks bets n set₀ i₀ set i = (i ≤ n) × (set ≡ se
 abbrev μ-loop : tie.MeasureT-loop
 μ-loop starting len stacks bets n set₀ i₀ set i = n - i
 
-smaller-requires : tie.Need-smaller-requires Inv-loop μ-loop
-smaller-requires c κs = search needs
-
 loop-holds : tie.Need-loop-holds Inv-loop μ-loop
 unfolding seatsWhere
 loop-holds c = (omega arith, refl)
-
-mul-is-all-in : tie.Need-mul-is-all-in Inv-loop μ-loop
-mul-is-all-in c = omega arith
-
-array-read-is-all-in : tie.Need-array-read-is-all-in Inv-loop μ-loop
-array-read-is-all-in c = omega arith
-
-mul-is-all-in-2 : tie.Need-mul-is-all-in-2 Inv-loop μ-loop
-mul-is-all-in-2 c = omega arith
-
-array-read-is-all-in-2 : tie.Need-array-read-is-all-in-2 Inv-loop μ-loop
-array-read-is-all-in-2 c = omega arith
-
-is-all-in-requires : tie.Need-is-all-in-requires Inv-loop μ-loop
-is-all-in-requires c κs = search needs
-
-with-if-requires : tie.Need-with-if-requires Inv-loop μ-loop
-with-if-requires c κs = search needs
-
-add-i : tie.Need-add-i Inv-loop μ-loop
-add-i c = omega arith
-
-loop-less : tie.Need-loop-less Inv-loop μ-loop
-loop-less c = omega arith
 
 loop-again : tie.Need-loop-again Inv-loop μ-loop
 loop-again c = (omega arith, seats-next _ _ _ _ _ (c .before .before .before .loop .inv .1) (c .before .is-all-in .ensures) (c .with-if .ensures))
@@ -60,15 +33,15 @@ all-in-seats-spec =
     (tie.spec
     Inv-loop
     μ-loop
-    smaller-requires
+    (λ c κs. search needs)
     loop-holds
-    mul-is-all-in
-    array-read-is-all-in
-    mul-is-all-in-2
-    array-read-is-all-in-2
-    is-all-in-requires
-    with-if-requires
-    add-i
-    loop-less
+    (λ c. omega arith)
+    (λ c. omega arith)
+    (λ c. omega arith)
+    (λ c. omega arith)
+    (λ c κs. search needs)
+    (λ c κs. search needs)
+    (λ c. omega arith)
+    (λ c. omega arith)
     loop-again
     returns)

@@ -3,40 +3,20 @@ use Prim.Native.Nat.{_≤_, _-_}
 use native.Mathlib.Omega.{arith}
 use mathlib.Core.Path.{_≡_, refl, sym}
 use borrow.Author.Needs.{needs}
-use Rattle.builder.specs.Cards.{cardsFrom}
+use Rattle.refusals.specs.Rows.{judgeThen}
+use Rattle.builder.specs.Cards.{cardRows}
 use Rattle.builder.proofs.Building.{cards-next, no-cards-yet, all-cards}
 use Rattle.builder.proofs.checks.card_fault.Statement.{statement}
 use Rattle.builder.proofs.checks.card_fault.Tie as tie
 
 abbrev Inv-loop : tie.InvT-loop
-Inv-loop len list n fault₀ i₀ fault i = (i ≤ n) × (fault ≡ cardsFrom (n - i) i list fault₀)
+Inv-loop len list n fault₀ i₀ fault i = (i ≤ n) × (fault ≡ judgeThen (cardRows (n - i) i list) fault₀)
 
 abbrev μ-loop : tie.MeasureT-loop
 μ-loop len list n fault₀ i₀ fault i = i
 
-smaller-requires : tie.Need-smaller-requires Inv-loop μ-loop
-smaller-requires c κs = search needs
-
 loop-holds : tie.Need-loop-holds Inv-loop μ-loop
 loop-holds c = (omega arith, no-cards-yet _ _ _)
-
-sub-i : tie.Need-sub-i Inv-loop μ-loop
-sub-i c = omega arith
-
-array-read-c : tie.Need-array-read-c Inv-loop μ-loop
-array-read-c c = omega arith
-
-is-seen-requires : tie.Need-is-seen-requires Inv-loop μ-loop
-is-seen-requires c κs = omega arith
-
-give-if-requires : tie.Need-give-if-requires Inv-loop μ-loop
-give-if-requires c κs = search needs
-
-give-if-requires-2 : tie.Need-give-if-requires-2 Inv-loop μ-loop
-give-if-requires-2 c κs = search needs
-
-loop-less : tie.Need-loop-less Inv-loop μ-loop
-loop-less c = omega arith
 
 loop-again : tie.Need-loop-again Inv-loop μ-loop
 loop-again c =
@@ -53,13 +33,13 @@ card-fault-spec =
     (tie.spec
     Inv-loop
     μ-loop
-    smaller-requires
+    (λ c κs. search needs)
     loop-holds
-    sub-i
-    array-read-c
-    is-seen-requires
-    give-if-requires
-    give-if-requires-2
-    loop-less
+    (λ c. omega arith)
+    (λ c. omega arith)
+    (λ c κs. omega arith)
+    (λ c κs. search needs)
+    (λ c κs. search needs)
+    (λ c. omega arith)
     loop-again
     returns)

@@ -18,15 +18,6 @@ loop-holds : tie.Need-loop-holds Inv-loop μ-loop
 unfolding seenTo
 loop-holds c = (omega arith, refl)
 
-array-read-seen : tie.Need-array-read-seen Inv-loop μ-loop
-array-read-seen c = omega arith
-
-add-i : tie.Need-add-i Inv-loop μ-loop
-add-i c = omega arith
-
-loop-less : tie.Need-loop-less Inv-loop μ-loop
-loop-less c = omega arith
-
 loop-again : tie.Need-loop-again Inv-loop μ-loop
 loop-again c = (omega arith, seen-next _ _ _ _ (c .before .loop .inv .1))
 
@@ -36,4 +27,4 @@ returns c = all-seen _ _ _ _ _ (c .before .loop .inv .1) (c .before .loop .inv .
 pub is-seen-spec : {M : Type 1} → statement M
 is-seen-spec =
     tie.close
-    (tie.spec Inv-loop μ-loop loop-holds array-read-seen add-i loop-less loop-again returns)
+    (tie.spec Inv-loop μ-loop loop-holds (λ c. omega arith) (λ c. omega arith) (λ c. omega arith) loop-again returns)

@@ -3,11 +3,8 @@ use borrow.Author.Needs.{needs}
 use Rattle.console.proofs.act.bad_line.Statement.{statement}
 use Rattle.console.proofs.act.bad_line.Tie as tie
 
-number-requires : tie.Need-number-requires
-number-requires c κs = search needs
-
 returns : tie.Need-returns
 returns c = simp (c .number .ensures)
 
 pub bad-line-spec : {M : Type 1} → statement M
-bad-line-spec = tie.close (tie.spec number-requires returns)
+bad-line-spec = tie.close (tie.spec (λ c κs. search needs) returns)

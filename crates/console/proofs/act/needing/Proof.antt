@@ -8,12 +8,9 @@ returns : tie.Need-returns
 unfolding needing
 returns c = simp (c .if1 .taken)
 
-bad-line-requires : tie.Need-bad-line-requires
-bad-line-requires c κs = search needs
-
 returns-2 : tie.Need-returns-2
 unfolding needing
 returns-2 c = simp (c .before .if1 .left, c .bad-line .ensures)
 
 pub needing-spec : {M : Type 1} → statement M
-needing-spec = tie.close (tie.spec returns bad-line-requires returns-2)
+needing-spec = tie.close (tie.spec returns (λ c κs. search needs) returns-2)

@@ -6,81 +6,6 @@ use Rattle.console.proofs.LawsAct.{does}
 use Rattle.console.proofs.act.obey.Statement.{statement}
 use Rattle.console.proofs.act.obey.Tie as tie
 
-meaning-requires : tie.Need-meaning-requires
-meaning-requires c κs = search needs
-
-enum-told : tie.Need-enum-told
-enum-told c = search needs
-
-open-table-requires : tie.Need-open-table-requires
-open-table-requires c κs = search needs
-
-opened-requires : tie.Need-opened-requires
-opened-requires c κs = search needs
-
-enum-told-2 : tie.Need-enum-told-2
-enum-told-2 c = search needs
-
-advance-round-requires : tie.Need-advance-round-requires
-advance-round-requires c κs = search needs
-
-stepped-requires : tie.Need-stepped-requires
-stepped-requires c κs = search needs
-
-enum-told-3 : tie.Need-enum-told-3
-enum-told-3 c = search needs
-
-fold-requires : tie.Need-fold-requires
-fold-requires c κs = search needs
-
-stepped-requires-2 : tie.Need-stepped-requires-2
-stepped-requires-2 c κs = search needs
-
-enum-known-x : tie.Need-enum-known-x
-enum-known-x c = search needs
-
-int-to-float-do-bet : tie.Need-int-to-float-do-bet
-int-to-float-do-bet c = search needs
-
-do-bet-requires : tie.Need-do-bet-requires
-do-bet-requires c κs = search needs
-
-wagered-requires : tie.Need-wagered-requires
-wagered-requires c κs = search needs
-
-enum-known-x-2 : tie.Need-enum-known-x-2
-enum-known-x-2 c = search needs
-
-int-to-float-do-bet-2 : tie.Need-int-to-float-do-bet-2
-int-to-float-do-bet-2 c = search needs
-
-do-bet-requires-2 : tie.Need-do-bet-requires-2
-do-bet-requires-2 c κs = search needs
-
-wagered-requires-2 : tie.Need-wagered-requires-2
-wagered-requires-2 c κs = search needs
-
-enum-told-4 : tie.Need-enum-told-4
-enum-told-4 c = search needs
-
-complete-requires : tie.Need-complete-requires
-complete-requires c κs = search needs
-
-stepped-requires-3 : tie.Need-stepped-requires-3
-stepped-requires-3 c κs = search needs
-
-enum-told-5 : tie.Need-enum-told-5
-enum-told-5 c = search needs
-
-ranked-requires : tie.Need-ranked-requires
-ranked-requires c κs = search needs
-
-enum-told-6 : tie.Need-enum-told-6
-enum-told-6 c = search needs
-
-bad-line-requires : tie.Need-bad-line-requires
-bad-line-requires c κs = search needs
-
 returns : tie.Need-returns
 returns c =
     let at-arm = c .before .before in
@@ -141,31 +66,31 @@ pub obey-spec : {M : Type 1} → statement M
 obey-spec =
     tie.close
     (tie.spec
-    meaning-requires
-    enum-told
-    open-table-requires
-    opened-requires
-    enum-told-2
-    advance-round-requires
-    stepped-requires
-    enum-told-3
-    fold-requires
-    stepped-requires-2
-    enum-known-x
-    int-to-float-do-bet
-    do-bet-requires
-    wagered-requires
-    enum-known-x-2
-    int-to-float-do-bet-2
-    do-bet-requires-2
-    wagered-requires-2
-    enum-told-4
-    complete-requires
-    stepped-requires-3
-    enum-told-5
-    ranked-requires
-    enum-told-6
-    bad-line-requires
+    (λ c κs. search needs)
+    (λ c. search needs)
+    (λ c κs. search needs)
+    (λ c κs. search needs)
+    (λ c. search needs)
+    (λ c κs. search needs)
+    (λ c κs. search needs)
+    (λ c. search needs)
+    (λ c κs. search needs)
+    (λ c κs. search needs)
+    (λ c. search needs)
+    (λ c. search needs)
+    (λ c κs. search needs)
+    (λ c κs. search needs)
+    (λ c. search needs)
+    (λ c. search needs)
+    (λ c κs. search needs)
+    (λ c κs. search needs)
+    (λ c. search needs)
+    (λ c κs. search needs)
+    (λ c κs. search needs)
+    (λ c. search needs)
+    (λ c κs. search needs)
+    (λ c. search needs)
+    (λ c κs. search needs)
     returns
     returns-2
     returns-3

@@ -4,15 +4,6 @@ use borrow.Author.Needs.{needs}
 use Rattle.console.proofs.act.opened.Statement.{statement}
 use Rattle.console.proofs.act.opened.Tie as tie
 
-enum-told : tie.Need-enum-told
-enum-told c = search needs
-
-enum-known-answer : tie.Need-enum-known-answer
-enum-known-answer c = search needs
-
-number-requires : tie.Need-number-requires
-number-requires c κs = search needs
-
 returns : tie.Need-returns
 returns c = rw (c .enum-told .given .1) refl
 
@@ -20,4 +11,4 @@ returns-2 : tie.Need-returns-2
 returns-2 c = rw (c .before .before .answer .given .1) (simp (c .number .ensures))
 
 pub opened-spec : {M : Type 1} → statement M
-opened-spec = tie.close (tie.spec enum-told enum-known-answer number-requires returns returns-2)
+opened-spec = tie.close (tie.spec (λ c. search needs) (λ c. search needs) (λ c κs. search needs) returns returns-2)

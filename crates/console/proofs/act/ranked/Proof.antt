@@ -6,27 +6,12 @@ use Rattle.console.proofs.LawsAct.{ranks}
 use Rattle.console.proofs.act.ranked.Statement.{statement}
 use Rattle.console.proofs.act.ranked.Tie as tie
 
-ranks-of-requires : tie.Need-ranks-of-requires
-ranks-of-requires c κs = search needs
-
-settle-requires : tie.Need-settle-requires
-settle-requires c κs = search needs
-
-settle-number-requires : tie.Need-settle-number-requires
-settle-number-requires c κs = search needs
-
-needing-requires : tie.Need-needing-requires
-needing-requires c κs = search needs
-
 returns : tie.Need-returns
 returns c =
     let at-settle = c .before .before .before in
     let at-test = at-settle .before .before in
     let start = at-test .before .before .before in
-    ranks (start .args .s) (start .args .count) _ (at-test .if1 .taken) (at-settle .before .ranks-of .ensures) (at-settle .settle .ensures) (c .before .settle-number .ensures) (c .needing .ensures)
-
-bad-line-requires : tie.Need-bad-line-requires
-bad-line-requires c κs = search needs
+    ranks (start .args .s) (start .args .count) _ (at-test .if1 .taken) (at-settle .before .ranks-of .ensures) (at-settle .settle .ensures) (c .before .number .ensures) (c .needing .ensures)
 
 returns-2 : tie.Need-returns-2
 unfolding ranked
@@ -36,10 +21,10 @@ pub ranked-spec : {M : Type 1} → statement M
 ranked-spec =
     tie.close
     (tie.spec
-    ranks-of-requires
-    settle-requires
-    settle-number-requires
-    needing-requires
+    (λ c κs. search needs)
+    (λ c κs. search needs)
+    (λ c κs. search needs)
+    (λ c κs. search needs)
     returns
-    bad-line-requires
+    (λ c κs. search needs)
     returns-2)

@@ -3,14 +3,8 @@ use borrow.Author.Needs.{needs}
 use Rattle.console.proofs.act.stepped.Statement.{statement}
 use Rattle.console.proofs.act.stepped.Tie as tie
 
-step-number-requires : tie.Need-step-number-requires
-step-number-requires c κs = search needs
-
-needing-requires : tie.Need-needing-requires
-needing-requires c κs = search needs
-
 returns : tie.Need-returns
-returns c = rw (← c .before .step-number .ensures) (c .needing .ensures)
+returns c = rw (← c .before .number .ensures) (c .needing .ensures)
 
 pub stepped-spec : {M : Type 1} → statement M
-stepped-spec = tie.close (tie.spec step-number-requires needing-requires returns)
+stepped-spec = tie.close (tie.spec (λ c κs. search needs) (λ c κs. search needs) returns)

@@ -4,18 +4,6 @@ use Rattle.console.proofs.LawsAct.{turn-is, said-short}
 use Rattle.console.proofs.play.play_line.Statement.{statement}
 use Rattle.console.proofs.play.play_line.Tie as tie
 
-obey-requires : tie.Need-obey-requires
-obey-requires c κs = search needs
-
-view-of-requires : tie.Need-view-of-requires
-view-of-requires c κs = search needs
-
-print-requires : tie.Need-print-requires
-print-requires c κs = search needs
-
-count-up-requires : tie.Need-count-up-requires
-count-up-requires c κs = search needs
-
 returns : tie.Need-returns
 returns c =
     let at-view = c .before .before in
@@ -26,4 +14,4 @@ returns c =
     )
 
 pub play-line-spec : {M : Type 1} → statement M
-play-line-spec = tie.close (tie.spec obey-requires view-of-requires print-requires count-up-requires returns)
+play-line-spec = tie.close (tie.spec (λ c κs. search needs) (λ c κs. search needs) (λ c κs. search needs) (λ c κs. search needs) returns)

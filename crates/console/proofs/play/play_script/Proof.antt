@@ -4,22 +4,10 @@ use Rattle.console.proofs.LawsLong.{part-short, part-long}
 use Rattle.console.proofs.play.play_script.Statement.{statement}
 use Rattle.console.proofs.play.play_script.Tie as tie
 
-refuse-requires : tie.Need-refuse-requires
-refuse-requires c κs = search needs
-
-same-length : tie.Need-same-length
-same-length c = search needs
-
 returns : tie.Need-returns
 returns c =
     let at-refuse = c .before .before in
     rw (part-long _ _ _ _ (at-refuse .before .before .if1 .taken)) (at-refuse .refuse .ensures)
-
-play-some-requires : tie.Need-play-some-requires
-play-some-requires c κs = search needs
-
-same-length-2 : tie.Need-same-length-2
-same-length-2 c = search needs
 
 returns-2 : tie.Need-returns-2
 returns-2 c =
@@ -27,4 +15,4 @@ returns-2 c =
     rw (part-short _ _ _ _ (at-some .before .before .if1 .left)) (at-some .play-some .ensures)
 
 pub play-script-spec : {M : Type 1} → statement M
-play-script-spec = tie.close (tie.spec refuse-requires same-length returns play-some-requires same-length-2 returns-2)
+play-script-spec = tie.close (tie.spec (λ c κs. search needs) (λ c. search needs) returns (λ c κs. search needs) (λ c. search needs) returns-2)

@@ -1,8 +1,9 @@
 -- `console::play::play_some`: after some lines `Sofar` holds, and the place goes up with each. Assumes nothing.
 use Prim.Native.Nat.{_-_}
 use native.Mathlib.Omega.{arith}
+use borrow.Author.Needs.{needs}
 use lib.ListN.{length}
-use Rattle.console.proofs.LawsParts.{Sofar, begins, one-more, laid-short, goes-up, fits, goes-on, ended, full}
+use Rattle.console.proofs.LawsParts.{Sofar, begins, one-more, goes-up, fits, goes-on, ended, full}
 use Rattle.console.proofs.play.play_some.Statement.{statement}
 use Rattle.console.proofs.play.play_some.Tie as tie
 
@@ -18,32 +19,22 @@ loop-holds c = begins _ _ _ _
 sub-if1 : tie.Need-sub-if1 Inv-loop μ-loop
 sub-if1 c = c .before .loop .inv .within
 
-read-line-requires : tie.Need-read-line-requires Inv-loop μ-loop
-read-line-requires c κs = tt
-
-play-line-requires : tie.Need-play-line-requires Inv-loop μ-loop
-play-line-requires c κs = tt
-
-lay-requires : tie.Need-lay-requires Inv-loop μ-loop
-lay-requires c κs =
-    let at-line = c .before .before .before in
-    let at-read = at-line .before .before in
-    let in-turn = at-read .before in
-    let x = one-more (in-turn .before .loop-test .left) (in-turn .if1 .left) (at-read .read-line .ensures) (at-line .play-line .ensures .0) (at-line .play-line .ensures .1) in
-    (fits (in-turn .before .before .loop .inv) x, laid-short x)
-
 add-n : tie.Need-add-n Inv-loop μ-loop
 add-n c =
-    let at-line = c .before .before .before .before .before .before .before in
+    let at-copy = c .before .before .before in
+    let at-bytes = at-copy .before .before .before in
+    let at-line = at-bytes .before .before in
     let at-read = at-line .before .before in
     let in-turn = at-read .before in
-    let x = one-more (in-turn .before .loop-test .left) (in-turn .if1 .left) (at-read .read-line .ensures) (at-line .play-line .ensures .0) (at-line .play-line .ensures .1) in
     let at-loop = in-turn .before .before in
+    let x = one-more (in-turn .before .loop-test .left) (in-turn .if1 .left) (at-read .read-line .ensures) (at-line .play-line .ensures .0) (at-line .play-line .ensures .1) in
     omega (arith, fits (at-loop .loop .inv) x, at-loop .loop .inv .long, at-loop .before .before .before .good .1 .1 .1 .0)
 
 loop-less : tie.Need-loop-less Inv-loop μ-loop
 loop-less c =
-    let at-line = c .before .before .before .before .before .before .before .before in
+    let at-copy = c .before .before .before .before in
+    let at-bytes = at-copy .before .before .before in
+    let at-line = at-bytes .before .before in
     let at-read = at-line .before .before in
     let in-turn = at-read .before in
     let x = one-more (in-turn .before .loop-test .left) (in-turn .if1 .left) (at-read .read-line .ensures) (at-line .play-line .ensures .0) (at-line .play-line .ensures .1) in
@@ -51,12 +42,13 @@ loop-less c =
 
 loop-again : tie.Need-loop-again Inv-loop μ-loop
 loop-again c =
-    let at-lay = c .before .before .before .before in
-    let at-line = at-lay .before .before .before .before in
+    let at-copy = c .before .before .before .before in
+    let at-bytes = at-copy .before .before .before in
+    let at-line = at-bytes .before .before in
     let at-read = at-line .before .before in
     let in-turn = at-read .before in
     let x = one-more (in-turn .before .loop-test .left) (in-turn .if1 .left) (at-read .read-line .ensures) (at-line .play-line .ensures .0) (at-line .play-line .ensures .1) in
-    goes-on (in-turn .before .before .loop .inv) x _ (at-lay .lay .ensures)
+    goes-on (in-turn .before .before .loop .inv) x _ (at-copy .copy-u8 .ensures)
 
 same-length : tie.Need-same-length Inv-loop μ-loop
 same-length c = c .before .loop .inv .long
@@ -78,9 +70,10 @@ play-some-spec =
     μ-loop
     loop-holds
     sub-if1
-    read-line-requires
-    play-line-requires
-    lay-requires
+    (λ c κs. search needs)
+    (λ c κs. search needs)
+    (λ c. search needs)
+    (λ c κs. search needs)
     add-n
     loop-less
     loop-again

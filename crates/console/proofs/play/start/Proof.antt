@@ -4,12 +4,9 @@ use Rattle.console.specs.Play.{atStart}
 use Rattle.console.proofs.play.start.Statement.{statement}
 use Rattle.console.proofs.play.start.Tie as tie
 
-none-requires : tie.Need-none-requires
-none-requires c κs = search needs
-
 returns : tie.Need-returns
 unfolding atStart
 returns c = simp (c .none .ensures)
 
 pub start-spec : {M : Type 1} → statement M
-start-spec = tie.close (tie.spec none-requires returns)
+start-spec = tie.close (tie.spec (λ c κs. search needs) returns)

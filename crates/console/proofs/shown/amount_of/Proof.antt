@@ -17,9 +17,6 @@ int-to-float-back : tie.Need-int-to-float-back
 unfolding inFloat
 int-to-float-back c = subst T (sym (le-leb _ _ (c .before .if3 .taken))) tt
 
-cast-t9 : tie.Need-cast-t9
-cast-t9 c = search needs
-
 returns : tie.Need-returns
 unfolding amountOf
 returns c = simp (← c .before .before .before .truncating-f32-to-u64 .ensures, le-leb _ _ (c .before .before .if3 .taken), c .if4 .taken)
@@ -46,7 +43,7 @@ amount-of-spec =
     (tie.spec
     truncating-f32-to-u64-requires
     int-to-float-back
-    cast-t9
+    (λ c. search needs)
     returns
     returns-2
     returns-3

@@ -3,9 +3,9 @@ use Prim.Native.Nat.{_≤_, _-_}
 use mathlib.Core.Path.{_≡_, refl, sym, _∙_}
 use native.Mathlib.Omega.{arith}
 use borrow.Author.Needs.{needs}
-use Rattle.layers.specs.Folds.{mostTo}
+use Rattle.commons.specs.Folds.{mostTo}
 use Rattle.layers.specs.Settlement.{rank, reached, best}
-use Rattle.layers.proofs.Folds.{most-next}
+use Rattle.commons.proofs.Folds.{most-next}
 use Rattle.layers.proofs.Levels.{contends-is}
 use Rattle.layers.proofs.layer.best_rank.Statement.{statement}
 use Rattle.layers.proofs.layer.best_rank.Tie as tie
@@ -19,33 +19,6 @@ abbrev μ-loop : tie.MeasureT-loop
 loop-holds : tie.Need-loop-holds Inv-loop μ-loop
 unfolding mostTo
 loop-holds c = (omega arith, refl)
-
-mul-b : tie.Need-mul-b Inv-loop μ-loop
-mul-b c = omega arith
-
-element-copy-out-b : tie.Need-element-copy-out-b Inv-loop μ-loop
-element-copy-out-b c = omega arith
-
-mul-k : tie.Need-mul-k Inv-loop μ-loop
-mul-k c = omega arith
-
-element-copy-out-k : tie.Need-element-copy-out-k Inv-loop μ-loop
-element-copy-out-k c = omega arith
-
-cast-k : tie.Need-cast-k Inv-loop μ-loop
-cast-k c = search needs
-
-has-requires : tie.Need-has-requires Inv-loop μ-loop
-has-requires c κs = search needs
-
-larger-if-requires : tie.Need-larger-if-requires Inv-loop μ-loop
-larger-if-requires c κs = search needs
-
-add-i : tie.Need-add-i Inv-loop μ-loop
-add-i c = omega arith
-
-loop-less : tie.Need-loop-less Inv-loop μ-loop
-loop-less c = omega arith
 
 loop-again : tie.Need-loop-again Inv-loop μ-loop
 unfolding reached
@@ -69,14 +42,14 @@ best-rank-spec =
     Inv-loop
     μ-loop
     loop-holds
-    mul-b
-    element-copy-out-b
-    mul-k
-    element-copy-out-k
-    cast-k
-    has-requires
-    larger-if-requires
-    add-i
-    loop-less
+    (λ c. omega arith)
+    (λ c. omega arith)
+    (λ c. omega arith)
+    (λ c. omega arith)
+    (λ c. search needs)
+    (λ c κs. search needs)
+    (λ c κs. search needs)
+    (λ c. omega arith)
+    (λ c. omega arith)
     loop-again
     returns)

@@ -3,9 +3,9 @@ use Prim.Native.Nat.{_≤_, _-_}
 use mathlib.Core.Path.{_≡_, refl, sym, _∙_}
 use native.Mathlib.Omega.{arith}
 use borrow.Author.Needs.{needs}
-use Rattle.layers.specs.Folds.{anyTo}
+use Rattle.commons.specs.Folds.{anyTo}
 use Rattle.layers.specs.Settlement.{contends}
-use Rattle.layers.proofs.Folds.{any-next}
+use Rattle.commons.proofs.Folds.{any-next}
 use Rattle.layers.proofs.Levels.{contends-is}
 use Rattle.layers.proofs.layer.contested.Statement.{statement}
 use Rattle.layers.proofs.layer.contested.Tie as tie
@@ -20,15 +20,6 @@ loop-holds : tie.Need-loop-holds Inv-loop μ-loop
 unfolding anyTo
 loop-holds c = (omega arith, refl)
 
-has-requires : tie.Need-has-requires Inv-loop μ-loop
-has-requires c κs = search needs
-
-add-i : tie.Need-add-i Inv-loop μ-loop
-add-i c = omega arith
-
-loop-less : tie.Need-loop-less Inv-loop μ-loop
-loop-less c = omega arith
-
 loop-again : tie.Need-loop-again Inv-loop μ-loop
 loop-again c =
     let at-test = c .before .before in
@@ -41,4 +32,4 @@ returns c =
 
 pub contested-spec : {M : Type 1} → statement M
 contested-spec =
-    tie.close (tie.spec Inv-loop μ-loop loop-holds has-requires add-i loop-less loop-again returns)
+    tie.close (tie.spec Inv-loop μ-loop loop-holds (λ c κs. search needs) (λ c. omega arith) (λ c. omega arith) loop-again returns)

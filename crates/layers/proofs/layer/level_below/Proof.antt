@@ -5,9 +5,9 @@ use mathlib.Core.Bool.{_&&_}
 use native.Mathlib.Omega.{arith}
 use borrow.Author.Needs.{needs}
 use lib.Dec.{ltb}
-use Rattle.layers.specs.Folds.{mostTo}
+use Rattle.commons.specs.Folds.{mostTo}
 use Rattle.layers.specs.Settlement.{bet, contends, levelBelow}
-use Rattle.layers.proofs.Folds.{most-next}
+use Rattle.commons.proofs.Folds.{most-next}
 use Rattle.layers.proofs.Levels.{contends-is}
 use Rattle.layers.proofs.layer.level_below.Statement.{statement}
 use Rattle.layers.proofs.layer.level_below.Tie as tie
@@ -21,24 +21,6 @@ abbrev μ-loop : tie.MeasureT-loop
 loop-holds : tie.Need-loop-holds Inv-loop μ-loop
 unfolding mostTo
 loop-holds c = (omega arith, refl)
-
-mul-b : tie.Need-mul-b Inv-loop μ-loop
-mul-b c = omega arith
-
-element-copy-out-b : tie.Need-element-copy-out-b Inv-loop μ-loop
-element-copy-out-b c = omega arith
-
-has-requires : tie.Need-has-requires Inv-loop μ-loop
-has-requires c κs = search needs
-
-larger-if-requires : tie.Need-larger-if-requires Inv-loop μ-loop
-larger-if-requires c κs = search needs
-
-add-i : tie.Need-add-i Inv-loop μ-loop
-add-i c = omega arith
-
-loop-less : tie.Need-loop-less Inv-loop μ-loop
-loop-less c = omega arith
 
 loop-again : tie.Need-loop-again Inv-loop μ-loop
 loop-again c =
@@ -61,11 +43,11 @@ level-below-spec =
     Inv-loop
     μ-loop
     loop-holds
-    mul-b
-    element-copy-out-b
-    has-requires
-    larger-if-requires
-    add-i
-    loop-less
+    (λ c. omega arith)
+    (λ c. omega arith)
+    (λ c κs. search needs)
+    (λ c κs. search needs)
+    (λ c. omega arith)
+    (λ c. omega arith)
     loop-again
     returns)

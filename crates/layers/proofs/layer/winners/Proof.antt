@@ -16,39 +16,9 @@ Inv-loop u h n best-of set₀ i₀ set i = (i ≤ n) × (set ≡ seatsWhere i (w
 abbrev μ-loop : tie.MeasureT-loop
 μ-loop u h n best-of set₀ i₀ set i = n - i
 
-best-rank-requires : tie.Need-best-rank-requires Inv-loop μ-loop
-best-rank-requires c κs = search needs
-
 loop-holds : tie.Need-loop-holds Inv-loop μ-loop
 unfolding seatsWhere
 loop-holds c = (omega arith, refl)
-
-mul-k : tie.Need-mul-k Inv-loop μ-loop
-mul-k c = omega arith
-
-element-copy-out-k : tie.Need-element-copy-out-k Inv-loop μ-loop
-element-copy-out-k c = omega arith
-
-cast-k : tie.Need-cast-k Inv-loop μ-loop
-cast-k c = search needs
-
-mul-b : tie.Need-mul-b Inv-loop μ-loop
-mul-b c = omega arith
-
-element-copy-out-b : tie.Need-element-copy-out-b Inv-loop μ-loop
-element-copy-out-b c = omega arith
-
-has-requires : tie.Need-has-requires Inv-loop μ-loop
-has-requires c κs = search needs
-
-with-if-requires : tie.Need-with-if-requires Inv-loop μ-loop
-with-if-requires c κs = search needs
-
-add-i : tie.Need-add-i Inv-loop μ-loop
-add-i c = omega arith
-
-loop-less : tie.Need-loop-less Inv-loop μ-loop
-loop-less c = omega arith
 
 loop-again : tie.Need-loop-again Inv-loop μ-loop
 unfolding wins reached
@@ -71,16 +41,16 @@ winners-spec =
     (tie.spec
     Inv-loop
     μ-loop
-    best-rank-requires
+    (λ c κs. search needs)
     loop-holds
-    mul-k
-    element-copy-out-k
-    cast-k
-    mul-b
-    element-copy-out-b
-    has-requires
-    with-if-requires
-    add-i
-    loop-less
+    (λ c. omega arith)
+    (λ c. omega arith)
+    (λ c. search needs)
+    (λ c. omega arith)
+    (λ c. omega arith)
+    (λ c κs. search needs)
+    (λ c κs. search needs)
+    (λ c. omega arith)
+    (λ c. omega arith)
     loop-again
     returns)

@@ -11,14 +11,8 @@ sub-result c = omega (arith, c .before .pre .0 (c .if1 .taken))
 returns : tie.Need-returns
 returns c = rw (le-leb _ _ (c .if1 .taken))
 
-sub-result-2 : tie.Need-sub-result-2
-sub-result-2 c = search needs
-
-add-result : tie.Need-add-result
-add-result c = search needs
-
 returns-2 : tie.Need-returns-2
 returns-2 c = rw (lt-leb _ _ (c .if1 .left))
 
 pub ahead-spec : {M : Type 1} → statement M
-ahead-spec = tie.close (tie.spec sub-result returns sub-result-2 add-result returns-2)
+ahead-spec = tie.close (tie.spec sub-result returns (λ c. search needs) (λ c. search needs) returns-2)

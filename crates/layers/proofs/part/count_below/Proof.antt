@@ -7,12 +7,6 @@ use Rattle.layers.proofs.Seats.{count-masked, count-le}
 use Rattle.layers.proofs.part.count_below.Statement.{statement}
 use Rattle.layers.proofs.part.count_below.Tie as tie
 
-up-to-requires : tie.Need-up-to-requires
-up-to-requires c κs = search needs
-
-count-requires : tie.Need-count-requires
-count-requires c κs = search needs
-
 cast-result : tie.Need-cast-result
 cast-result c = record { fits = omega (arith, c .count .ensures, count-le 16 (bitAnd (c .before .before .args .set) (c .before .up-to .result))) }
 
@@ -20,4 +14,4 @@ returns : tie.Need-returns
 returns c = c .count .ensures ∙ rw (c .before .up-to .ensures) (count-masked _ _ (c .before .before .pre))
 
 pub count-below-spec : {M : Type 1} → statement M
-count-below-spec = tie.close (tie.spec up-to-requires count-requires cast-result returns)
+count-below-spec = tie.close (tie.spec (λ c κs. search needs) (λ c κs. search needs) cast-result returns)

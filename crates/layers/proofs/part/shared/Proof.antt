@@ -6,8 +6,8 @@ use native.Mathlib.Omega.{arith}
 use borrow.Author.Needs.{needs}
 use lib.ListN.{getD}
 use Rattle.seats.specs.Bits.{countTo}
-use Rattle.amounts.specs.Filled.{filled}
-use Rattle.amounts.proofs.Filled.{filled-next}
+use Rattle.commons.specs.Filled.{filled}
+use Rattle.commons.proofs.Filled.{filled-next}
 use Rattle.layers.specs.Sharing.{shareOf}
 use Rattle.layers.proofs.Seats.{count-le, count-most, count-next}
 use Rattle.layers.proofs.Sharing.{share-made}
@@ -21,24 +21,9 @@ Inv-loop n first set amount paid w f equal odd k₀ out₀ i₀ k out i =
 abbrev μ-loop : tie.MeasureT-loop
 μ-loop n first set amount paid w f equal odd k₀ out₀ i₀ k out i = 16 - i
 
-count-below-requires : tie.Need-count-below-requires Inv-loop μ-loop
-count-below-requires c κs = search needs
-
-count-below-requires-2 : tie.Need-count-below-requires-2 Inv-loop μ-loop
-count-below-requires-2 c κs = omega arith
-
-div-equal : tie.Need-div-equal Inv-loop μ-loop
-div-equal c = omega arith
-
-rem-odd : tie.Need-rem-odd Inv-loop μ-loop
-rem-odd c = omega arith
-
 loop-holds : tie.Need-loop-holds Inv-loop μ-loop
 unfolding countTo filled
 loop-holds c = (omega arith, refl, refl)
-
-has-requires : tie.Need-has-requires Inv-loop μ-loop
-has-requires c κs = search needs
 
 ahead-requires : tie.Need-ahead-requires Inv-loop μ-loop
 ahead-requires c κs =
@@ -50,12 +35,6 @@ ahead-requires c κs =
       (omega (arith, count-most (start .args .first) n set (start .pre .0 .1)), omega (arith, count-le n set, count-le (at-loop .loop .i) set)),
     )
 
-mul-out : tie.Need-mul-out Inv-loop μ-loop
-mul-out c = omega arith
-
-array-read-out : tie.Need-array-read-out Inv-loop μ-loop
-array-read-out c = omega arith
-
 seat-share-requires : tie.Need-seat-share-requires Inv-loop μ-loop
 seat-share-requires c κs =
     let at-count = c .before .before .before .before .before in
@@ -66,25 +45,10 @@ add-out c =
     let at-loop = c .before .before .before .before in
     omega (arith, at-loop .before .before .before .pre .1 .1 .1 (at-loop .loop .i) (omega arith))
 
-mul-out-2 : tie.Need-mul-out-2 Inv-loop μ-loop
-mul-out-2 c = omega arith
-
-array-write-out : tie.Need-array-write-out Inv-loop μ-loop
-array-write-out c = omega arith
-
-only-requires : tie.Need-only-requires Inv-loop μ-loop
-only-requires c κs = search needs
-
 add-k : tie.Need-add-k Inv-loop μ-loop
 add-k c =
     let at-loop = c .before .before .before .before .before in
     omega (arith, count-le (at-loop .loop .i) (at-loop .before .before .before .args .set))
-
-add-i : tie.Need-add-i Inv-loop μ-loop
-add-i c = omega arith
-
-loop-less : tie.Need-loop-less Inv-loop μ-loop
-loop-less c = omega arith
 
 loop-again : tie.Need-loop-again Inv-loop μ-loop
 loop-again c =
@@ -110,22 +74,22 @@ shared-spec =
     (tie.spec
     Inv-loop
     μ-loop
-    count-below-requires
-    count-below-requires-2
-    div-equal
-    rem-odd
+    (λ c κs. search needs)
+    (λ c κs. omega arith)
+    (λ c. omega arith)
+    (λ c. omega arith)
     loop-holds
-    has-requires
+    (λ c κs. search needs)
     ahead-requires
-    mul-out
-    array-read-out
+    (λ c. omega arith)
+    (λ c. omega arith)
     seat-share-requires
     add-out
-    mul-out-2
-    array-write-out
-    only-requires
+    (λ c. omega arith)
+    (λ c. omega arith)
+    (λ c κs. search needs)
     add-k
-    add-i
-    loop-less
+    (λ c. omega arith)
+    (λ c. omega arith)
     loop-again
     returns)

@@ -5,8 +5,8 @@ use native.Mathlib.Omega.{arith}
 use mathlib.Core.Path.{refl}
 use mathlib.Core.Bool.{not, _||_}
 use lib.Dec.{leb}
-use Rattle.chips.specs.Sums.{allTo}
-use Rattle.chips.proofs.Sums.{all-next}
+use Rattle.commons.specs.Folds.{allTo}
+use Rattle.commons.proofs.Folds.{all-next}
 use Rattle.order.specs.Seatwise.{Seatwise}
 use Rattle.order.proofs.seatwise.tested.Statement.{statement}
 use Rattle.order.proofs.seatwise.tested.Tie as tie
@@ -25,41 +25,17 @@ loop-holds c = (omega arith, record { covers = refl; holds = refl; plays = refl 
 has-requires : tie.Need-has-requires Inv-loop μ-loop
 has-requires c κs = tt
 
-mul-chips-in : tie.Need-mul-chips-in Inv-loop μ-loop
-mul-chips-in c = omega arith
-
-array-read-chips-in : tie.Need-array-read-chips-in Inv-loop μ-loop
-array-read-chips-in c = omega arith
-
 chips-in-requires : tie.Need-chips-in-requires Inv-loop μ-loop
 chips-in-requires c κs = tt
 
-mul-chips-in-2 : tie.Need-mul-chips-in-2 Inv-loop μ-loop
-mul-chips-in-2 c = omega arith
-
-array-read-chips-in-2 : tie.Need-array-read-chips-in-2 Inv-loop μ-loop
-array-read-chips-in-2 c = omega arith
-
 chips-in-requires-2 : tie.Need-chips-in-requires-2 Inv-loop μ-loop
 chips-in-requires-2 c κs = tt
-
-mul-chips-in-3 : tie.Need-mul-chips-in-3 Inv-loop μ-loop
-mul-chips-in-3 c = omega arith
-
-array-read-chips-in-3 : tie.Need-array-read-chips-in-3 Inv-loop μ-loop
-array-read-chips-in-3 c = omega arith
 
 chips-in-requires-3 : tie.Need-chips-in-requires-3 Inv-loop μ-loop
 chips-in-requires-3 c κs = tt
 
 has-requires-2 : tie.Need-has-requires-2 Inv-loop μ-loop
 has-requires-2 c κs = tt
-
-add-i : tie.Need-add-i Inv-loop μ-loop
-add-i c = omega arith
-
-loop-less : tie.Need-loop-less Inv-loop μ-loop
-loop-less c = omega arith
 
 loop-again : tie.Need-loop-again Inv-loop μ-loop
 loop-again c =
@@ -90,17 +66,17 @@ tested-spec =
     μ-loop
     loop-holds
     has-requires
-    mul-chips-in
-    array-read-chips-in
+    (λ c. omega arith)
+    (λ c. omega arith)
     chips-in-requires
-    mul-chips-in-2
-    array-read-chips-in-2
+    (λ c. omega arith)
+    (λ c. omega arith)
     chips-in-requires-2
-    mul-chips-in-3
-    array-read-chips-in-3
+    (λ c. omega arith)
+    (λ c. omega arith)
     chips-in-requires-3
     has-requires-2
-    add-i
-    loop-less
+    (λ c. omega arith)
+    (λ c. omega arith)
     loop-again
     returns)

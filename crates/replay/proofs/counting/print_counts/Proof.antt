@@ -8,7 +8,7 @@ abbrev Inv-loop : tie.InvT-loop
 Inv-loop counts is-begun₀ i₀ is-begun i = Unit {0}
 
 abbrev μ-loop : tie.MeasureT-loop
-μ-loop counts is-begun₀ i₀ is-begun i = 4096 - i
+μ-loop counts is-begun₀ i₀ is-begun i = 8192 - i
 
 pub print-counts-spec : {M : Type 1} → statement M
 print-counts-spec =

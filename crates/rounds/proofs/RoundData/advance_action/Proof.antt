@@ -5,12 +5,6 @@ use borrow.Author.Needs.{needs}
 use Rattle.rounds.proofs.RoundData.advance_action.Statement.{statement}
 use Rattle.rounds.proofs.RoundData.advance_action.Tie as tie
 
-is-sound-requires : tie.Need-is-sound-requires
-is-sound-requires c κs = search needs
-
-walk-requires : tie.Need-walk-requires
-walk-requires c κs = search needs
-
 returns : tie.Need-returns
 unfolding advanceOf
 returns c = simp (sym (c .before .before .is-sound .ensures) ∙ c .before .if1 .taken, c .walk .ensures)
@@ -20,4 +14,4 @@ unfolding advanceOf
 returns-2 c = simp (sym (c .before .is-sound .ensures) ∙ c .if1 .left)
 
 pub advance-action-spec : {M : Type 1} → statement M
-advance-action-spec = tie.close (tie.spec is-sound-requires walk-requires returns returns-2)
+advance-action-spec = tie.close (tie.spec (λ c κs. search needs) (λ c κs. search needs) returns returns-2)

@@ -7,9 +7,6 @@ use borrow.Author.Needs.{needs}
 use Rattle.rounds.proofs.RoundData.current_player_bet.Statement.{statement}
 use Rattle.rounds.proofs.RoundData.current_player_bet.Tie as tie
 
-is-sound-requires : tie.Need-is-sound-requires
-is-sound-requires c κs = search needs
-
 mul-t8 : tie.Need-mul-t8
 mul-t8 c = omega (arith, sound _ _ _ (sym (c .before .is-sound .ensures) ∙ c .if1 .taken) .place)
 
@@ -26,4 +23,4 @@ returns-2 c = simp (sym (c .before .is-sound .ensures) ∙ c .if1 .left)
 
 pub current-player-bet-spec : {M : Type 1} → statement M
 current-player-bet-spec =
-    tie.close (tie.spec is-sound-requires mul-t8 element-copy-out-t11 returns returns-2)
+    tie.close (tie.spec (λ c κs. search needs) mul-t8 element-copy-out-t11 returns returns-2)

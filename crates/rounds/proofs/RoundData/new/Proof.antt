@@ -6,19 +6,13 @@ use borrow.Author.Needs.{needs}
 use Rattle.rounds.proofs.RoundData.new.Statement.{statement}
 use Rattle.rounds.proofs.RoundData.new.Tie as tie
 
-is-sound-requires : tie.Need-is-sound-requires
-is-sound-requires c κs = search needs
-
 returns : tie.Need-returns
 unfolding newOf ofBits
 returns c = simp (sym (c .before .is-sound .ensures) ∙ c .if1 .taken)
-
-none-requires : tie.Need-none-requires
-none-requires c κs = search needs
 
 returns-2 : tie.Need-returns-2
 unfolding newOf
 returns-2 c = simp (sym (c .before .before .is-sound .ensures) ∙ c .before .if1 .left, c .none .ensures)
 
 pub new-spec : {M : Type 1} → statement M
-new-spec = tie.close (tie.spec is-sound-requires returns none-requires returns-2)
+new-spec = tie.close (tie.spec (λ c κs. search needs) returns (λ c κs. search needs) returns-2)

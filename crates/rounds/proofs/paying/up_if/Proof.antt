@@ -1,13 +1,13 @@
 -- `rounds::paying::up_if`: each arm by its test. Assumes nothing.
-use mathlib.Core.List.{_∷_, []}
-use lib.Dec.{ltb, ltb→lt}
-use Rattle.refusals.proofs.Tests.{each}
+use lib.Dec.{ltb}
+use borrow.Author.Tests.{ltb-true}
+use Rattle.commons.proofs.Bools.{and-both}
 use native.Mathlib.Omega.{arith}
 use Rattle.rounds.proofs.paying.up_if.Statement.{statement}
 use Rattle.rounds.proofs.paying.up_if.Tie as tie
 
 add-result : tie.Need-add-result
-add-result c = let start = c .before .args in omega (arith, ltb→lt (start .count) 255 (each (start .raised ∷ ltb (start .count) 255 ∷ []) (c .if1 .taken) .1))
+add-result c = let start = c .before .args in omega (arith, ltb-true (start .count) 255 (and-both (start .raised) (ltb (start .count) 255) (c .if1 .taken) .1))
 
 returns : tie.Need-returns
 returns c = simp (c .if1 .taken)

@@ -7,9 +7,6 @@ use borrow.Author.Needs.{needs}
 use Rattle.rounds.proofs.walking.next.Statement.{statement}
 use Rattle.rounds.proofs.walking.next.Tie as tie
 
-add-on : tie.Need-add-on
-add-on c = search needs
-
 returns : tie.Need-returns
 returns c = sym (mod-eq-of-lt (c .if1 .taken))
 
@@ -17,4 +14,4 @@ returns-2 : tie.Need-returns-2
 returns-2 c = let e : c .before .args .at + 1 ≡ c .before .args .n = omega arith in sym (rw e (mod-self (c .before .args .n)))
 
 pub next-spec : {M : Type 1} → statement M
-next-spec = tie.close (tie.spec add-on returns returns-2)
+next-spec = tie.close (tie.spec (λ c. search needs) returns returns-2)

@@ -20,17 +20,8 @@ loop-holds c = begins _ _ _ (c .pre)
 next-requires : tie.Need-next-requires Inv-loop μ-loop
 next-requires c κs = rw (c .before .loop .inv .place) (mod-lt _ (omega (arith, c .before .before .pre)))
 
-add-passed : tie.Need-add-passed Inv-loop μ-loop
-add-passed c = omega arith
-
-has-requires : tie.Need-has-requires Inv-loop μ-loop
-has-requires c κs = search needs
-
 returns : tie.Need-returns Inv-loop μ-loop
 returns c = let at-loop = c .before .before .before .before in found _ _ _ _ _ _ (at-loop .loop .inv) (c .before .before .before .loop-test .taken) (c .before .before .next .ensures) (sym (c .before .has .ensures) ∙ c .if1 .taken)
-
-loop-less : tie.Need-loop-less Inv-loop μ-loop
-loop-less c = omega arith
 
 loop-again : tie.Need-loop-again Inv-loop μ-loop
 loop-again c = let at-loop = c .before .before .before .before in goes-on _ _ _ _ _ _ (at-loop .loop .inv) (c .before .before .before .loop-test .taken) (c .before .before .next .ensures) (sym (c .before .has .ensures) ∙ c .if1 .left)
@@ -49,10 +40,10 @@ walk-from-spec =
     μ-loop
     loop-holds
     next-requires
-    add-passed
-    has-requires
+    (λ c. omega arith)
+    (λ c κs. search needs)
     returns
-    loop-less
+    (λ c. omega arith)
     loop-again
     next-requires-2
     returns-2)

@@ -5,9 +5,6 @@ use borrow.Author.Needs.{needs}
 use Rattle.seats.proofs.PlayerBitSet.disable.Statement.{statement}
 use Rattle.seats.proofs.PlayerBitSet.disable.Tie as tie
 
-without-requires : tie.Need-without-requires
-without-requires c κs = search needs
-
 returns : tie.Need-returns
 unfolding disableOf
 returns c = simp (lt-ltb _ _ (c .before .if1 .taken), c .without .ensures)
@@ -17,4 +14,4 @@ unfolding disableOf
 returns-2 c = simp (le-ltb _ _ (c .if1 .left))
 
 pub disable-spec : {M : Type 1} → statement M
-disable-spec = tie.close (tie.spec without-requires returns returns-2)
+disable-spec = tie.close (tie.spec (λ c κs. search needs) returns returns-2)

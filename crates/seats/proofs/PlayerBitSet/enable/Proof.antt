@@ -5,9 +5,6 @@ use borrow.Author.Needs.{needs}
 use Rattle.seats.proofs.PlayerBitSet.enable.Statement.{statement}
 use Rattle.seats.proofs.PlayerBitSet.enable.Tie as tie
 
-with-requires : tie.Need-with-requires
-with-requires c κs = search needs
-
 returns : tie.Need-returns
 unfolding enableOf
 returns c = simp (lt-ltb _ _ (c .before .if1 .taken), c .with .ensures)
@@ -17,4 +14,4 @@ unfolding enableOf
 returns-2 c = simp (le-ltb _ _ (c .if1 .left))
 
 pub enable-spec : {M : Type 1} → statement M
-enable-spec = tie.close (tie.spec with-requires returns returns-2)
+enable-spec = tie.close (tie.spec (λ c κs. search needs) returns returns-2)

@@ -5,9 +5,6 @@ use borrow.Author.Needs.{needs}
 use Rattle.seats.proofs.PlayerBitSet.get.Statement.{statement}
 use Rattle.seats.proofs.PlayerBitSet.get.Tie as tie
 
-has-requires : tie.Need-has-requires
-has-requires c κs = search needs
-
 returns : tie.Need-returns
 unfolding getOf
 returns c = simp (lt-ltb _ _ (c .before .if1 .taken), c .has .ensures)
@@ -17,4 +14,4 @@ unfolding getOf
 returns-2 c = simp (le-ltb _ _ (c .if1 .left))
 
 pub get-spec : {M : Type 1} → statement M
-get-spec = tie.close (tie.spec has-requires returns returns-2)
+get-spec = tie.close (tie.spec (λ c κs. search needs) returns returns-2)

@@ -5,9 +5,6 @@ use borrow.Author.Needs.{needs}
 use Rattle.seats.proofs.PlayerBitSet.new.Statement.{statement}
 use Rattle.seats.proofs.PlayerBitSet.new.Tie as tie
 
-up-to-requires : tie.Need-up-to-requires
-up-to-requires c κs = search needs
-
 returns : tie.Need-returns
 unfolding newOf
 returns c = simp (le-leb _ _ (c .before .if1 .taken), c .up-to .ensures)
@@ -17,4 +14,4 @@ unfolding newOf
 returns-2 c = simp (lt-leb _ _ (c .if1 .left))
 
 pub new-spec : {M : Type 1} → statement M
-new-spec = tie.close (tie.spec up-to-requires returns returns-2)
+new-spec = tie.close (tie.spec (λ c κs. search needs) returns returns-2)

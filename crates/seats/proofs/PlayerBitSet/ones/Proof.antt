@@ -6,9 +6,6 @@ use borrow.Author.Needs.{needs}
 use Rattle.seats.proofs.PlayerBitSet.ones.Statement.{statement}
 use Rattle.seats.proofs.PlayerBitSet.ones.Tie as tie
 
-next-requires : tie.Need-next-requires
-next-requires c κs = search needs
-
 returns : tie.Need-returns
 unfolding onesOf
 returns c = simp (sym (c .before .next .ensures), lt-ltb _ _ (c .if1 .taken))
@@ -18,4 +15,4 @@ unfolding onesOf
 returns-2 c = simp (sym (c .before .next .ensures), le-ltb _ _ (c .if1 .left))
 
 pub ones-spec : {M : Type 1} → statement M
-ones-spec = tie.close (tie.spec next-requires returns returns-2)
+ones-spec = tie.close (tie.spec (λ c κs. search needs) returns returns-2)

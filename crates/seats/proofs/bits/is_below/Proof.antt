@@ -11,14 +11,8 @@ use Rattle.seats.proofs.bits.is_below.Tie as tie
 returns : tie.Need-returns
 returns c = sym (lt-ltb _ _ (lt-of-lt-of-le (c .before .fits .set .fits) (pow-mono (c .if1 .taken))))
 
-cast-result : tie.Need-cast-result
-cast-result c = search needs
-
-shl-result : tie.Need-shl-result
-shl-result c = search needs
-
 returns-2 : tie.Need-returns-2
 returns-2 c = rw (shifted (c .before .args .n) 16 (c .if1 .left))
 
 pub is-below-spec : {M : Type 1} → statement M
-is-below-spec = tie.close (tie.spec returns cast-result shl-result returns-2)
+is-below-spec = tie.close (tie.spec returns (λ c. search needs) (λ c. search needs) returns-2)

@@ -5,7 +5,7 @@ use mathlib.Core.Path.{sym, _∙_}
 use mathlib.Core.Logic.{⊎-elim}
 use borrow.Author.Needs.{needs}
 use Rattle.seats.specs.Bits.{has, nextFrom}
-use Rattle.seats.proofs.First.{Passed, passed-on, found-at, none-is}
+use Rattle.commons.proofs.First.{Passed, passed-on, found-at, none-is}
 use Rattle.seats.proofs.Laws.{none-from}
 use Rattle.seats.proofs.bits.next.Statement.{statement}
 use Rattle.seats.proofs.bits.next.Tie as tie
@@ -19,20 +19,11 @@ abbrev μ-loop : tie.MeasureT-loop
 loop-holds : tie.Need-loop-holds Inv-loop μ-loop
 loop-holds c = (omega arith, λ j l m. absurd (omega arith))
 
-has-requires : tie.Need-has-requires Inv-loop μ-loop
-has-requires c κs = search needs
-
 returns : tie.Need-returns Inv-loop μ-loop
 unfolding nextFrom
 returns c =
     let at-loop = c .before .before .before in
     sym (found-at (has _) 16 _ 16 _ (at-loop .loop .inv .1) (at-loop .loop .inv .0) (omega arith) (sym (c .before .has .ensures) ∙ c .if1 .taken))
-
-add-i : tie.Need-add-i Inv-loop μ-loop
-add-i c = omega arith
-
-loop-less : tie.Need-loop-less Inv-loop μ-loop
-loop-less c = omega arith
 
 loop-again : tie.Need-loop-again Inv-loop μ-loop
 loop-again c =
@@ -46,4 +37,4 @@ returns-2 c = sym (none-is (has _) 16 _ 16 (none-from _ _ _ (search needs) (c .l
 pub next-spec : {M : Type 1} → statement M
 next-spec =
     tie.close
-    (tie.spec Inv-loop μ-loop loop-holds has-requires returns add-i loop-less loop-again returns-2)
+    (tie.spec Inv-loop μ-loop loop-holds (λ c κs. search needs) returns (λ c. omega arith) (λ c. omega arith) loop-again returns-2)

@@ -11,12 +11,6 @@ returns : tie.Need-returns
 unfolding upTo
 returns c = simp (le-ltb _ _ (c .if1 .taken))
 
-cast-result : tie.Need-cast-result
-cast-result c = search needs
-
-shl-result : tie.Need-shl-result
-shl-result c = search needs
-
 sub-result : tie.Need-sub-result
 sub-result c = rw (shifted (c .before .args .n) 16 (c .if1 .left)) (pow-pos _)
 
@@ -25,4 +19,4 @@ unfolding upTo
 returns-2 c = simp (lt-ltb _ _ (c .if1 .left), shifted (c .before .args .n) 16 (c .if1 .left))
 
 pub up-to-spec : {M : Type 1} → statement M
-up-to-spec = tie.close (tie.spec returns cast-result shl-result sub-result returns-2)
+up-to-spec = tie.close (tie.spec returns (λ c. search needs) (λ c. search needs) sub-result returns-2)

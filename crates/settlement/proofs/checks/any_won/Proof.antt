@@ -6,8 +6,8 @@ use mathlib.Core.Path.{_≡_, refl, sym}
 use lib.ListN.{getD}
 use lib.Ieee.{nan, ofBits, ne}
 use Rattle.floats.specs.Helpers.{zerof}
-use Rattle.layers.specs.Folds.{anyTo}
-use Rattle.layers.proofs.Folds.{any-next}
+use Rattle.commons.specs.Folds.{anyTo}
+use Rattle.commons.proofs.Folds.{any-next}
 use Rattle.settlement.specs.Settlement.{anyWon}
 use Rattle.settlement.proofs.Unpaid.{too-long}
 use Rattle.settlement.proofs.checks.any_won.Statement.{statement}
@@ -26,18 +26,6 @@ loop-holds : tie.Need-loop-holds Inv-loop μ-loop
 unfolding anyTo
 loop-holds c = (omega arith, refl)
 
-mul-any : tie.Need-mul-any Inv-loop μ-loop
-mul-any c = omega arith
-
-array-read-any : tie.Need-array-read-any Inv-loop μ-loop
-array-read-any c = omega arith
-
-add-i : tie.Need-add-i Inv-loop μ-loop
-add-i c = omega arith
-
-loop-less : tie.Need-loop-less Inv-loop μ-loop
-loop-less c = omega arith
-
 loop-again : tie.Need-loop-again Inv-loop μ-loop
 unfolding ofBits
 loop-again c = (omega arith, any-next _ _ _ _ (c .before .loop .inv .1) refl)
@@ -54,9 +42,9 @@ any-won-spec =
     μ-loop
     returns
     loop-holds
-    mul-any
-    array-read-any
-    add-i
-    loop-less
+    (λ c. omega arith)
+    (λ c. omega arith)
+    (λ c. omega arith)
+    (λ c. omega arith)
     loop-again
     returns-2)

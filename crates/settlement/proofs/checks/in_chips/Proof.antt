@@ -7,31 +7,10 @@ use borrow.Author.Needs.{needs}
 use Rattle.settlement.proofs.checks.in_chips.Statement.{statement}
 use Rattle.settlement.proofs.checks.in_chips.Tie as tie
 
-chips-in-requires : tie.Need-chips-in-requires
-chips-in-requires c κs = search needs
-
-sum-chips-requires : tie.Need-sum-chips-requires
-sum-chips-requires c κs = search needs
-
 add-held : tie.Need-add-held
 add-held c =
     let start = c .before .before .args in
     record { fits = omega (arith, c .sum-chips .ensures, sum-fits (start .stacks) (start .n) (omega arith), c .before .chips-in .ensures, chips-le (start .pot)) }
-
-sum-chips-requires-2 : tie.Need-sum-chips-requires-2
-sum-chips-requires-2 c κs = search needs
-
-all-whole-requires : tie.Need-all-whole-requires
-all-whole-requires c κs = search needs
-
-is-whole-requires : tie.Need-is-whole-requires
-is-whole-requires c κs = search needs
-
-all-whole-requires-2 : tie.Need-all-whole-requires-2
-all-whole-requires-2 c κs = search needs
-
-all-whole-requires-3 : tie.Need-all-whole-requires-3
-all-whole-requires-3 c κs = search needs
 
 returns : tie.Need-returns
 unfolding inChips
@@ -44,12 +23,12 @@ pub in-chips-spec : {M : Type 1} → statement M
 in-chips-spec =
     tie.close
     (tie.spec
-    chips-in-requires
-    sum-chips-requires
+    (λ c κs. search needs)
+    (λ c κs. search needs)
     add-held
-    sum-chips-requires-2
-    all-whole-requires
-    is-whole-requires
-    all-whole-requires-2
-    all-whole-requires-3
+    (λ c κs. search needs)
+    (λ c κs. search needs)
+    (λ c κs. search needs)
+    (λ c κs. search needs)
+    (λ c κs. search needs)
     returns)

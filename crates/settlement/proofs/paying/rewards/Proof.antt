@@ -3,8 +3,8 @@ use Prim.Native.Nat.{_≤_, _-_}
 use native.Mathlib.Omega.{arith}
 use mathlib.Core.Path.{_≡_}
 use lib.IntN.{pos, _-ℤ_}
-use Rattle.amounts.specs.Filled.{filled}
-use Rattle.amounts.proofs.Filled.{filled-none, filled-next, filled-end}
+use Rattle.commons.specs.Filled.{filled}
+use Rattle.commons.proofs.Filled.{filled-none, filled-next, filled-end}
 use Rattle.chips.proofs.Whole.{chips-le}
 use Rattle.settlement.specs.Hand.{chipsAt}
 use Rattle.settlement.specs.Settlement.{noRewards, rewardsOf}
@@ -21,38 +21,14 @@ abbrev μ-loop : tie.MeasureT-loop
 loop-holds : tie.Need-loop-holds Inv-loop μ-loop
 loop-holds c = (omega arith, filled-none _ _)
 
-mul-chips-in : tie.Need-mul-chips-in Inv-loop μ-loop
-mul-chips-in c = omega arith
-
-array-read-chips-in : tie.Need-array-read-chips-in Inv-loop μ-loop
-array-read-chips-in c = omega arith
-
 chips-in-requires : tie.Need-chips-in-requires Inv-loop μ-loop
 chips-in-requires c κs = tt
-
-mul-chips-in-2 : tie.Need-mul-chips-in-2 Inv-loop μ-loop
-mul-chips-in-2 c = omega arith
-
-array-read-chips-in-2 : tie.Need-array-read-chips-in-2 Inv-loop μ-loop
-array-read-chips-in-2 c = omega arith
 
 chips-in-requires-2 : tie.Need-chips-in-requires-2 Inv-loop μ-loop
 chips-in-requires-2 c κs = tt
 
 less-requires : tie.Need-less-requires Inv-loop μ-loop
 less-requires c κs = (rw (c .before .chips-in .ensures) (chips-le _), rw (c .chips-in2 .ensures) (chips-le _))
-
-mul-out : tie.Need-mul-out Inv-loop μ-loop
-mul-out c = omega arith
-
-array-set-from-out : tie.Need-array-set-from-out Inv-loop μ-loop
-array-set-from-out c = omega arith
-
-add-i : tie.Need-add-i Inv-loop μ-loop
-add-i c = omega arith
-
-loop-less : tie.Need-loop-less Inv-loop μ-loop
-loop-less c = omega arith
 
 loop-again : tie.Need-loop-again Inv-loop μ-loop
 loop-again c =
@@ -70,16 +46,16 @@ rewards-spec =
     Inv-loop
     μ-loop
     loop-holds
-    mul-chips-in
-    array-read-chips-in
+    (λ c. omega arith)
+    (λ c. omega arith)
     chips-in-requires
-    mul-chips-in-2
-    array-read-chips-in-2
+    (λ c. omega arith)
+    (λ c. omega arith)
     chips-in-requires-2
     less-requires
-    mul-out
-    array-set-from-out
-    add-i
-    loop-less
+    (λ c. omega arith)
+    (λ c. omega arith)
+    (λ c. omega arith)
+    (λ c. omega arith)
     loop-again
     returns)

@@ -9,12 +9,9 @@ returns : tie.Need-returns
 unfolding raised
 returns c = rw (eq-eqb _ _ (c .if1 .taken))
 
-nearest-u32-to-f32-requires : tie.Need-nearest-u32-to-f32-requires
-nearest-u32-to-f32-requires c κs = search needs
-
 returns-2 : tie.Need-returns-2
 unfolding raised
 returns-2 c = rw (c .nearest-u32-to-f32 .ensures, ne-eqb _ _ (c .before .if1 .left))
 
 pub with-award-spec : {M : Type 1} → statement M
-with-award-spec = tie.close (tie.spec returns nearest-u32-to-f32-requires returns-2)
+with-award-spec = tie.close (tie.spec returns (λ c κs. search needs) returns-2)

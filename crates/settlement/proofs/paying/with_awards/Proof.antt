@@ -4,8 +4,8 @@ use native.Mathlib.Omega.{arith}
 use mathlib.Core.Path.{_≡_}
 use lib.ListN.{getD}
 use lib.Ieee.{nan}
-use Rattle.amounts.specs.Filled.{filled}
-use Rattle.amounts.proofs.Filled.{filled-none, filled-next, filled-end}
+use Rattle.commons.specs.Filled.{filled}
+use Rattle.commons.proofs.Filled.{filled-none, filled-next, filled-end}
 use Rattle.settlement.specs.Settlement.{raised, raisedAll}
 use Rattle.settlement.proofs.paying.with_awards.Statement.{statement}
 use Rattle.settlement.proofs.paying.with_awards.Tie as tie
@@ -19,32 +19,8 @@ abbrev μ-loop : tie.MeasureT-loop
 loop-holds : tie.Need-loop-holds Inv-loop μ-loop
 loop-holds c = (omega arith, filled-none _ _)
 
-mul-with-award : tie.Need-mul-with-award Inv-loop μ-loop
-mul-with-award c = omega arith
-
-array-read-with-award : tie.Need-array-read-with-award Inv-loop μ-loop
-array-read-with-award c = omega arith
-
-mul-with-award-2 : tie.Need-mul-with-award-2 Inv-loop μ-loop
-mul-with-award-2 c = omega arith
-
-array-read-with-award-2 : tie.Need-array-read-with-award-2 Inv-loop μ-loop
-array-read-with-award-2 c = omega arith
-
 with-award-requires : tie.Need-with-award-requires Inv-loop μ-loop
 with-award-requires c κs = tt
-
-mul-out : tie.Need-mul-out Inv-loop μ-loop
-mul-out c = omega arith
-
-array-write-out : tie.Need-array-write-out Inv-loop μ-loop
-array-write-out c = omega arith
-
-add-i : tie.Need-add-i Inv-loop μ-loop
-add-i c = omega arith
-
-loop-less : tie.Need-loop-less Inv-loop μ-loop
-loop-less c = omega arith
 
 loop-again : tie.Need-loop-again Inv-loop μ-loop
 loop-again c = (omega arith, filled-next _ _ _ _ _ (c .before .before .loop .inv .1) (c .with-award .ensures))
@@ -60,14 +36,14 @@ with-awards-spec =
     Inv-loop
     μ-loop
     loop-holds
-    mul-with-award
-    array-read-with-award
-    mul-with-award-2
-    array-read-with-award-2
+    (λ c. omega arith)
+    (λ c. omega arith)
+    (λ c. omega arith)
+    (λ c. omega arith)
     with-award-requires
-    mul-out
-    array-write-out
-    add-i
-    loop-less
+    (λ c. omega arith)
+    (λ c. omega arith)
+    (λ c. omega arith)
+    (λ c. omega arith)
     loop-again
     returns)

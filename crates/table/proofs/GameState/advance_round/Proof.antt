@@ -5,12 +5,6 @@ use borrow.Author.Needs.{needs}
 use Rattle.table.proofs.GameState.advance_round.Statement.{statement}
 use Rattle.table.proofs.GameState.advance_round.Tie as tie
 
-is-sound-requires : tie.Need-is-sound-requires
-is-sound-requires c κs = search needs
-
-is-round-requires : tie.Need-is-round-requires
-is-round-requires c κs = search needs
-
 returns : tie.Need-returns
 unfolding advanceOf
 returns c =
@@ -18,9 +12,6 @@ returns c =
     let at-if1 = at-is-round .before in
     let at-is-sound = at-if1 .before in
     simp (sym (at-is-sound .is-sound .ensures) ∙ at-if1 .if1 .taken, sym (at-is-round .is-round .ensures) ∙ c .if2 .taken)
-
-advance-normal-requires : tie.Need-advance-normal-requires
-advance-normal-requires c κs = search needs
 
 returns-2 : tie.Need-returns-2
 unfolding advanceOf
@@ -41,9 +32,9 @@ pub advance-round-spec : {M : Type 1} → statement M
 advance-round-spec =
     tie.close
     (tie.spec
-    is-sound-requires
-    is-round-requires
+    (λ c κs. search needs)
+    (λ c κs. search needs)
     returns
-    advance-normal-requires
+    (λ c κs. search needs)
     returns-2
     returns-3)

@@ -8,9 +8,6 @@ use borrow.Author.Needs.{needs}
 use Rattle.table.proofs.GameState.award.Statement.{statement}
 use Rattle.table.proofs.GameState.award.Tie as tie
 
-is-sound-requires : tie.Need-is-sound-requires
-is-sound-requires c κs = search needs
-
 awarded-requires : tie.Need-awarded-requires
 awarded-requires c κs =
     let at-if1 = c .before .before in
@@ -37,4 +34,4 @@ unfolding awardOf
 returns-3 c = simp (sym (c .before .is-sound .ensures) ∙ c .if1 .left)
 
 pub award-spec : {M : Type 1} → statement M
-award-spec = tie.close (tie.spec is-sound-requires awarded-requires returns returns-2 returns-3)
+award-spec = tie.close (tie.spec (λ c κs. search needs) awarded-requires returns returns-2 returns-3)

@@ -5,36 +5,6 @@ use borrow.Author.Needs.{needs}
 use Rattle.table.proofs.GameState.choose.Statement.{statement}
 use Rattle.table.proofs.GameState.choose.Tie as tie
 
-enum-told : tie.Need-enum-told
-enum-told c = search needs
-
-do-bet-requires : tie.Need-do-bet-requires
-do-bet-requires c κs = search needs
-
-enum-known-action : tie.Need-enum-known-action
-enum-known-action c = search needs
-
-do-bet-requires-2 : tie.Need-do-bet-requires-2
-do-bet-requires-2 c κs = search needs
-
-enum-told-2 : tie.Need-enum-told-2
-enum-told-2 c = search needs
-
-infinity-requires : tie.Need-infinity-requires
-infinity-requires c κs = search needs
-
-do-bet-requires-3 : tie.Need-do-bet-requires-3
-do-bet-requires-3 c κs = search needs
-
-enum-told-3 : tie.Need-enum-told-3
-enum-told-3 c = search needs
-
-fold-requires : tie.Need-fold-requires
-fold-requires c κs = search needs
-
-paying-nothing-requires : tie.Need-paying-nothing-requires
-paying-nothing-requires c κs = search needs
-
 returns : tie.Need-returns
 unfolding choiceOf
 returns c = simp (c .before .enum-told .given .1, c .do-bet .ensures)
@@ -55,16 +25,16 @@ pub choose-spec : {M : Type 1} → statement M
 choose-spec =
     tie.close
     (tie.spec
-    enum-told
-    do-bet-requires
-    enum-known-action
-    do-bet-requires-2
-    enum-told-2
-    infinity-requires
-    do-bet-requires-3
-    enum-told-3
-    fold-requires
-    paying-nothing-requires
+    (λ c. search needs)
+    (λ c κs. search needs)
+    (λ c. search needs)
+    (λ c κs. search needs)
+    (λ c. search needs)
+    (λ c κs. search needs)
+    (λ c κs. search needs)
+    (λ c. search needs)
+    (λ c κs. search needs)
+    (λ c κs. search needs)
     returns
     returns-2
     returns-3

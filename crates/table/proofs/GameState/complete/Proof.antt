@@ -5,12 +5,6 @@ use borrow.Author.Needs.{needs}
 use Rattle.table.proofs.GameState.complete.Statement.{statement}
 use Rattle.table.proofs.GameState.complete.Tie as tie
 
-is-sound-requires : tie.Need-is-sound-requires
-is-sound-requires c κs = search needs
-
-is-round-requires : tie.Need-is-round-requires
-is-round-requires c κs = search needs
-
 returns : tie.Need-returns
 unfolding completeOf
 returns c =
@@ -18,9 +12,6 @@ returns c =
     let at-if1 = at-is-round .before in
     let at-is-sound = at-if1 .before in
     simp (sym (at-is-sound .is-sound .ensures) ∙ at-if1 .if1 .taken, sym (at-is-round .is-round .ensures) ∙ c .if2 .taken)
-
-completed-requires : tie.Need-completed-requires
-completed-requires c κs = search needs
 
 returns-2 : tie.Need-returns-2
 unfolding completeOf
@@ -40,4 +31,4 @@ returns-3 c =
 pub complete-spec : {M : Type 1} → statement M
 complete-spec =
     tie.close
-    (tie.spec is-sound-requires is-round-requires returns completed-requires returns-2 returns-3)
+    (tie.spec (λ c κs. search needs) (λ c κs. search needs) returns (λ c κs. search needs) returns-2 returns-3)

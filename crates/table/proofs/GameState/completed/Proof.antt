@@ -3,14 +3,8 @@ use borrow.Author.Needs.{needs}
 use Rattle.table.proofs.GameState.completed.Statement.{statement}
 use Rattle.table.proofs.GameState.completed.Tie as tie
 
-fresh-data-requires : tie.Need-fresh-data-requires
-fresh-data-requires c κs = search needs
-
-with-round-requires : tie.Need-with-round-requires
-with-round-requires c κs = search needs
-
 returns : tie.Need-returns
 returns c = rw (c .with-round .ensures, c .before .fresh-data .ensures)
 
 pub completed-spec : {M : Type 1} → statement M
-completed-spec = tie.close (tie.spec fresh-data-requires with-round-requires returns)
+completed-spec = tie.close (tie.spec (λ c κs. search needs) (λ c κs. search needs) returns)

@@ -5,18 +5,6 @@ use borrow.Author.Needs.{needs}
 use Rattle.table.proofs.GameState.fold.Statement.{statement}
 use Rattle.table.proofs.GameState.fold.Tie as tie
 
-is-sound-requires : tie.Need-is-sound-requires
-is-sound-requires c κs = search needs
-
-without-requires : tie.Need-without-requires
-without-requires c κs = search needs
-
-walk-requires : tie.Need-walk-requires
-walk-requires c κs = search needs
-
-without-requires-2 : tie.Need-without-requires-2
-without-requires-2 c κs = search needs
-
 returns : tie.Need-returns
 unfolding foldOf
 returns c =
@@ -37,9 +25,9 @@ pub fold-spec : {M : Type 1} → statement M
 fold-spec =
     tie.close
     (tie.spec
-    is-sound-requires
-    without-requires
-    walk-requires
-    without-requires-2
+    (λ c κs. search needs)
+    (λ c κs. search needs)
+    (λ c κs. search needs)
+    (λ c κs. search needs)
     returns
     returns-2)

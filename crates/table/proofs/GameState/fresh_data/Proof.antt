@@ -4,12 +4,9 @@ use borrow.Author.Needs.{needs}
 use Rattle.table.proofs.GameState.fresh_data.Statement.{statement}
 use Rattle.table.proofs.GameState.fresh_data.Tie as tie
 
-cleared-requires : tie.Need-cleared-requires
-cleared-requires c κs = search needs
-
 returns : tie.Need-returns
 unfolding ofBits
 returns c = rw (c .cleared .ensures)
 
 pub fresh-data-spec : {M : Type 1} → statement M
-fresh-data-spec = tie.close (tie.spec cleared-requires returns)
+fresh-data-spec = tie.close (tie.spec (λ c κs. search needs) returns)

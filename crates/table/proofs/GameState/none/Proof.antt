@@ -4,12 +4,9 @@ use borrow.Author.Needs.{needs}
 use Rattle.table.proofs.GameState.none.Statement.{statement}
 use Rattle.table.proofs.GameState.none.Tie as tie
 
-none-requires : tie.Need-none-requires
-none-requires c κs = search needs
-
 returns : tie.Need-returns
 unfolding ofBits
 returns c = rw (c .none .ensures)
 
 pub none-spec : {M : Type 1} → statement M
-none-spec = tie.close (tie.spec none-requires returns)
+none-spec = tie.close (tie.spec (λ c κs. search needs) returns)

@@ -8,9 +8,6 @@ use borrow.Author.Needs.{needs}
 use Rattle.table.proofs.GameState.player_reward.Statement.{statement}
 use Rattle.table.proofs.GameState.player_reward.Tie as tie
 
-is-sound-requires : tie.Need-is-sound-requires
-is-sound-requires c κs = search needs
-
 mul-t7 : tie.Need-mul-t7
 mul-t7 c =
     let at-if1 = c .before .before in
@@ -55,7 +52,7 @@ pub player-reward-spec : {M : Type 1} → statement M
 player-reward-spec =
     tie.close
     (tie.spec
-    is-sound-requires
+    (λ c κs. search needs)
     mul-t7
     array-read-t10
     mul-t11

@@ -22,17 +22,8 @@ returns c = simp (lt-leb _ _ (c .if1 .taken))
 loop-holds : tie.Need-loop-holds Inv-loop μ-loop
 loop-holds c = (c .if1 .left, few-cards _ _ (c .if1 .left))
 
-sub-k : tie.Need-sub-k Inv-loop μ-loop
-sub-k c = omega arith
-
-array-read-if2 : tie.Need-array-read-if2 Inv-loop μ-loop
-array-read-if2 c = search needs
-
 returns-2 : tie.Need-returns-2 Inv-loop μ-loop
 returns-2 c = sym (c .before .before .loop .inv .1 ∙ bad-card _ _ (c .before .loop-test .taken) (c .if2 .taken))
-
-loop-less : tie.Need-loop-less Inv-loop μ-loop
-loop-less c = omega arith
 
 loop-again : tie.Need-loop-again Inv-loop μ-loop
 loop-again c = (omega arith, c .before .before .loop .inv .1 ∙ good-card _ _ (c .before .loop-test .taken) (c .if2 .left))
@@ -48,9 +39,9 @@ board-ok-spec =
     μ-loop
     returns
     loop-holds
-    sub-k
-    array-read-if2
+    (λ c. omega arith)
+    (λ c. search needs)
     returns-2
-    loop-less
+    (λ c. omega arith)
     loop-again
     returns-3)

@@ -1,0 +1,10 @@
+pub mod Bools
+pub mod Filled
+pub mod First
+pub mod Folds
+pub mod OneResult
+pub mod Order
+pub mod Pasted
+pub mod Promises
+pub mod Stands
+pub mod Tests

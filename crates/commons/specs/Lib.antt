@@ -1,0 +1,5 @@
+pub mod Filled
+pub mod First
+pub mod Folds
+pub mod Stands
+pub mod Tests

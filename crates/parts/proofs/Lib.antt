@@ -1,0 +1,4 @@
+pub mod LawsRun
+pub mod LawsTold
+pub mod Cases
+pub mod Promises

@@ -1,0 +1,12 @@
+pub mod LawsCalls
+pub mod LawsAsked
+pub mod LawsBuild
+pub mod LawsPlayed
+pub mod LawsPut
+pub mod LawsBet
+pub mod LawsSettled
+pub mod LawsSeats
+pub mod LawsDataBack
+pub mod LawsDataFits
+pub mod LawsRounds
+pub mod Promises
