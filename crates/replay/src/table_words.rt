@@ -32,7 +32,7 @@ fn words_of(floats: [f32; places::FLOATS], numbers: [u32; places::NUMBERS]) -> W
     table
 }
 
-// Zeros where no table stands: seen when the words are compared.
+// A word that is out of its range is read cut to it: seen when the words are compared.
 pub fn table_at(table: &Words) -> GameState {
     let floats = floats_of(table);
     let numbers = numbers_of(table);
