@@ -22,8 +22,8 @@ extern "C" {
 
 /* ---- Written by .ci/layout from crates/layout/src/places.rt */
 
-/* The library's version: 20000 is 2.0.0. The layout's goes up when a place moves or is added. */
-#define PEATCLOAK_VERSION 20000
+/* The library's version: 20100 is 2.1.0. The layout's goes up when a place moves or is added. */
+#define PEATCLOAK_VERSION 20100
 #define PEATCLOAK_LAYOUT 1
 
 /* How many places each list has. */
@@ -174,7 +174,7 @@ uint32_t peatcloak_build(float *floats, size_t floats_len, uint32_t *numbers, si
                          size_t given_len);
 
 /* Pays the pot out by PEATCLOAK_SEATS ranks, higher is better; as many rewards are each seat's stack less its starting
- * stack. */
+ * stack. Odd chips go one each to a layer's winners in order from the first seat after the dealer (since 2.1.0). */
 uint32_t peatcloak_settle(float *floats, size_t floats_len, uint32_t *numbers, size_t numbers_len,
                           const uint16_t *ranks, size_t ranks_len, int32_t *rewards, size_t rewards_len);
 

@@ -35,7 +35,7 @@ fn must_be_ours(linked: Told) {
     );
 }
 
-/// 20000 is version 2.0.0.
+/// 20100 is version 2.1.0.
 fn shown([version, layout, floats, numbers]: Told) -> String {
     let (major, minor, patch) = (version / 10_000, version / 100 % 100, version % 100);
     format!(

@@ -3,8 +3,8 @@
 
 #![allow(missing_docs, reason = "a place is named after what stands there")]
 
-/// The library's version: 20000 is 2.0.0. The layout's goes up when a place moves or is added.
-pub const VERSION: u32 = 20000;
+/// The library's version: 20100 is 2.1.0. The layout's goes up when a place moves or is added.
+pub const VERSION: u32 = 20100;
 pub const LAYOUT: u32 = 1;
 
 /// How many places each list has.

@@ -21,7 +21,7 @@ use Rattle.commons.specs.Folds.{sumTo, allTo, mostTo, anyTo}
 use Rattle.chips.specs.Whole.{isWhole, chipsIn, allWhole, sumChips}
 use Rattle.layers.specs.Sharing.{ahead, shareOf}
 use Rattle.layers.specs.Settlement.{contends, isLevel, top, levelBelow, isLayer, potOf, putIn, holds, reached, best, wins, share, award, isPayable, awardsOf}
-use Rattle.settlement.specs.Hand.{countedOf, firstOf}
+use Rattle.settlement.specs.Hand.{countedOf, afterDealer}
 use Rattle.settlement.specs.Settlement.{anyWon, inChips, raised, raisedAll, rewardsOf, settledOf}
 use Rattle.script.specs.Ascii.{bytes}
 use Rattle.script.specs.Line.{asked}
@@ -58,5 +58,5 @@ printed =
     ∷ []
 
 pub worked : playScript (text script) ≡ text printed
-unfolding sumTo allTo isWhole chipsIn allWhole sumChips mostTo anyTo ahead shareOf contends isLevel top levelBelow isLayer potOf putIn holds reached best wins share award isPayable awardsOf countedOf firstOf anyWon inChips raised raisedAll rewardsOf countTo toUnsigned ofInt eq ne lt le add sub mul div isNan round units odd size climb span maxOf minOf signOf absOf tolOf nearZero filled sumOf aboveOf anyInvalid has upTo with without seatsWhere firstFrom distance walkOf smallBlindOf dataFor builtOf cardRows seenTo owingAfter betOf foldOf firstTurn advanceOf cardsOk boardOk goodAdded soundFrame asked allDigits unpadded valueAfter isNumber digitsIn decimal amountText viewText lineText pieces lines allNumbers firsts lettered wordsOf amountsFrom openingOf needing ranked actOf settledOf amountOf viewOf atStart said after playLines playScript
+unfolding sumTo allTo isWhole chipsIn allWhole sumChips mostTo anyTo ahead shareOf contends isLevel top levelBelow isLayer potOf putIn holds reached best wins share award isPayable awardsOf countedOf afterDealer anyWon inChips raised raisedAll rewardsOf countTo toUnsigned ofInt eq ne lt le add sub mul div isNan round units odd size climb span maxOf minOf signOf absOf tolOf nearZero filled sumOf aboveOf anyInvalid has upTo with without seatsWhere firstFrom distance walkOf smallBlindOf dataFor builtOf cardRows seenTo owingAfter betOf foldOf firstTurn advanceOf cardsOk boardOk goodAdded soundFrame asked allDigits unpadded valueAfter isNumber digitsIn decimal amountText viewText lineText pieces lines allNumbers firsts lettered wordsOf amountsFrom openingOf needing ranked actOf settledOf amountOf viewOf atStart said after playLines playScript
 worked = refl

@@ -1,4 +1,4 @@
--- Document 01's worked hands, and some at the edges of its sentences, as one table that is computed. Assumes nothing.
+-- The worked hands of documents 01 and 02, and some at the edges of their sentences, as one table that is computed. Assumes nothing.
 use Prim.Native.Nat.{ℕ, _-_}
 use mathlib.Core.Path.{_≡_, refl}
 use mathlib.Core.List.{List, [], _∷_, _++_, map}
@@ -29,14 +29,19 @@ table =
     -- the odd chip from another seat on
     ∷ case 6 0 1 (5 ∷ 5 ∷ 5 ∷ []) (4 ∷ 4 ∷ 4 ∷ []) (0 ∷ 8 ∷ 7 ∷ [])
     ∷ case 6 0 2 (5 ∷ 5 ∷ 5 ∷ []) (4 ∷ 4 ∷ 4 ∷ []) (0 ∷ 7 ∷ 8 ∷ [])
-    -- odd chips are per layer
+    -- odd chips are per layer, in each from the seat `first` on
     ∷ case 14 0 0 (6 ∷ 5 ∷ 8 ∷ 8 ∷ []) (3 ∷ 3 ∷ 3 ∷ 3 ∷ []) (0 ∷ 7 ∷ 11 ∷ 9 ∷ [])
+    ∷ case 14 0 1 (6 ∷ 5 ∷ 8 ∷ 8 ∷ []) (3 ∷ 3 ∷ 3 ∷ 3 ∷ []) (0 ∷ 7 ∷ 11 ∷ 9 ∷ [])
+    ∷ case 14 0 2 (6 ∷ 5 ∷ 8 ∷ 8 ∷ []) (3 ∷ 3 ∷ 3 ∷ 3 ∷ []) (0 ∷ 6 ∷ 11 ∷ 10 ∷ [])
+    ∷ case 14 0 3 (6 ∷ 5 ∷ 8 ∷ 8 ∷ []) (3 ∷ 3 ∷ 3 ∷ 3 ∷ []) (0 ∷ 7 ∷ 9 ∷ 11 ∷ [])
     -- a contender with no bet beside levels
     ∷ case 7 0 0 (0 ∷ 8 ∷ 8 ∷ []) (9 ∷ 1 ∷ 1 ∷ []) (0 ∷ 8 ∷ 8 ∷ [])
     -- a folded seat put in more than any level
     ∷ case 6 0 0 (9 ∷ 4 ∷ 4 ∷ []) (7 ∷ 1 ∷ 2 ∷ []) (0 ∷ 0 ∷ 17 ∷ [])
     -- no level
     ∷ case 6 0 0 (7 ∷ 0 ∷ 0 ∷ []) (9 ∷ 2 ∷ 2 ∷ []) (0 ∷ 4 ∷ 3 ∷ [])
+    ∷ case 6 0 1 (7 ∷ 0 ∷ 0 ∷ []) (9 ∷ 2 ∷ 2 ∷ []) (0 ∷ 4 ∷ 3 ∷ [])
+    ∷ case 6 0 2 (7 ∷ 0 ∷ 0 ∷ []) (9 ∷ 2 ∷ 2 ∷ []) (0 ∷ 3 ∷ 4 ∷ [])
     -- a better rank below the level
     ∷ case 6 1 0 (2 ∷ 6 ∷ 6 ∷ []) (9 ∷ 8 ∷ 3 ∷ []) (6 ∷ 8 ∷ 0 ∷ [])
     -- a contender alone takes all

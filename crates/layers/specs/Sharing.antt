@@ -1,4 +1,4 @@
--- R11.9: how a layer is shared. The seat from which odd chips are given out, seat 0, is here the seat `first`. Definitions only.
+-- R11.9: how a layer is shared. The seat from which odd chips are given out, the first after the dealer, is here the seat `first`. Definitions only.
 use Prim.Native.Nat.{ℕ, _+_, _-_, _/_, _%_}
 use mathlib.Core.Bool.{cond}
 use lib.Dec.{leb, ltb}

@@ -1,6 +1,7 @@
 pub mod Accepted
 pub mod Again
 pub mod Nets
+pub mod OddChips
 pub mod Promises
 pub mod Raised
 pub mod Signed

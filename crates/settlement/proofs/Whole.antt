@@ -1,5 +1,6 @@
 -- What the test of 23 says, part by part. With soundness it makes the hand of the record payable wherever somebody contends. Assumes nothing.
 use Prim.Native.Nat.{ℕ, _+_, _*_, _≤_, _<_, min}
+use native.Mathlib.Nat.{mod-lt}
 use native.Mathlib.Omega.{arith}
 use mathlib.Core.Path.{_≡_, sym, _∙_}
 use mathlib.Core.Logic.{⊎-elim}
@@ -7,11 +8,12 @@ use mathlib.Core.List.{List}
 use mathlib.Core.Bool.{true}
 use lib.ListN.{length}
 use lib.Ieee.{Float}
-use borrow.Author.Tests.{leb-true, eqb-true}
+use borrow.Author.Tests.{lt-ltb, leb-true, eqb-true}
 use Rattle.commons.proofs.Tests.{test-at}
 use Rattle.commons.proofs.Bools.{differ}
 use Rattle.commons.proofs.Order.{lt-or-le}
 use Rattle.commons.proofs.Filled.{filled-at}
+use Rattle.rounds.specs.Walk.{seatOn}
 use Rattle.table.specs.declared.GameState.{GameState}
 use Rattle.table.proofs.Sound.{Sound}
 use Rattle.chips.specs.Whole.{most, isWhole, chipsIn, allWhole, sumChips}
@@ -19,7 +21,7 @@ use Rattle.commons.proofs.Folds.{sum-same}
 use Rattle.chips.proofs.Lists as chips
 use Rattle.layers.specs.Settlement.{bet, potOf, isPayable, nothing}
 use Rattle.layers.proofs.Payable.{payable-is}
-use Rattle.settlement.specs.Hand.{chipsAt, countedOf, firstOf, handOf}
+use Rattle.settlement.specs.Hand.{chipsAt, countedOf, afterDealer, firstOf, handOf}
 use Rattle.settlement.specs.Settlement.{chipTests, inChips, isWholeTable, someone}
 
 -- ---- lists of amounts
@@ -54,9 +56,12 @@ module _ (t : GameState) where
       }
 
   -- ---- its hand
+  pub first-is : Sound t → firstOf t ≡ seatOn (t .«num_players») (t .«dealer_idx») 1
+  unfolding afterDealer
+  first-is s = rw (lt-ltb _ _ (s .deals))
+
   pub first-in : Sound t → firstOf t < t .«num_players»
-  unfolding firstOf
-  first-in s = omega (arith, s .two)
+  first-in s = rw (first-is s) (mod-lt _ (omega (arith, s .two)))
 
   module _ (ranks : List ℕ) where
     pub bet-is : (i : ℕ) → i < 16 → bet (handOf t ranks) i ≡ chipsAt (t .«player_bet») i

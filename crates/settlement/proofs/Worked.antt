@@ -1,4 +1,4 @@
--- Document 01's worked hands, and records with one fault or with two that stand next to each other in the order 19, 24, 23, 22: one table that
+-- The worked hands of documents 01 and 02, and records with one fault or with two that stand next to each other in the order 19, 24, 23, 22: one table that
 -- is computed. Assumes nothing.
 use Prim.Native.Nat.{ℕ, _-_}
 use mathlib.Core.Path.{_≡_, refl}
@@ -22,7 +22,7 @@ use Rattle.chips.specs.Whole.{isWhole, chipsIn, allWhole, sumChips}
 use Rattle.layers.specs.Sharing.{ahead, shareOf}
 use Rattle.layers.specs.Settlement.{contends, isLevel, top, levelBelow, isLayer, potOf, putIn, holds, reached, best, wins, share, award, isPayable, awardsOf}
 use Rattle.settlement.specs.declared.Settled.{Settled}
-use Rattle.settlement.specs.Hand.{countedOf, firstOf}
+use Rattle.settlement.specs.Hand.{countedOf, afterDealer}
 use Rattle.settlement.specs.Settlement.{anyWon, inChips, raised, raisedAll, rewardsOf, settledOf}
 use Rattle.refusals.specs.Rows.{verdictNumber}
 
@@ -39,13 +39,18 @@ minus-zero = fin true 0 (pos 0)
 padded : {A : Type 0} → A → List A → List A
 padded x l = l ++ replicate (16 - length l) x
 
--- a record: active and all-in seats as numbers (seat i is the digit i), the pot, stacks, hand bets, winnings; each seat began with its bet
-seated : ℕ → ℕ → ℕ → List Float → List ℕ → List Float → GameState
-seated active allIn pot stacks bets winnings =
+-- a record: the dealer, active and all-in seats as numbers (seat i is the digit i), the pot, stacks, hand bets, winnings; each seat began with its
+-- bet
+dealt : ℕ → ℕ → ℕ → ℕ → List Float → List ℕ → List Float → GameState
+dealt dealer active allIn pot stacks bets winnings =
     let n = length bets in
     let put = padded zerof (map chips bets) in
-    tableOf n active allIn (chips pot) (padded zerof stacks) put put (padded zerof winnings) (chips 10) (chips 5) zerof 0 River River
+    tableOf n active allIn (chips pot) (padded zerof stacks) put put (padded zerof winnings) (chips 10) (chips 5) zerof dealer River River
     (newData n (chips 10) (ofBits 0) 0) (replicate 5 0) 0 true true true 3 noAdded
+
+-- seat 0 deals
+seated : ℕ → ℕ → ℕ → List Float → List ℕ → List Float → GameState
+seated = dealt 0
 
 -- what is looked at
 record Seen : Type 0 where
@@ -62,28 +67,52 @@ record Case : Type 0 where
 seen : Settled → Seen
 seen s = record { number = verdictNumber (s .answer); stacks = s .table .stacks; winnings = s .table .«player_winnings»; rewards = s .rewards }
 
--- a hand paid from stacks and winnings of 0: the bets, the ranks, the awards, the rewards
-paid : ℕ → ℕ → ℕ → List ℕ → List ℕ → List ℕ → List ℤ → Case
-paid active allIn pot bets ranks awards rewards =
+-- a hand paid from stacks and winnings of 0: the dealer, the bets, the ranks, the awards, the rewards
+paid : ℕ → ℕ → ℕ → ℕ → List ℕ → List ℕ → List ℕ → List ℤ → Case
+paid dealer active allIn pot bets ranks awards rewards =
     let won = padded zerof (map chips awards) in
-    record { table = seated active allIn pot [] bets []; ranks = ranks; gives = record { number = 0; stacks = won; winnings = won; rewards = padded (pos 0) rewards } }
+    record { table = dealt dealer active allIn pot [] bets []; ranks = ranks; gives = record { number = 0; stacks = won; winnings = won; rewards = padded (pos 0) rewards } }
 
 -- a record refused, with equal ranks
 refused : ℕ → GameState → Case
 refused number t = record { table = t; ranks = replicate 16 1; gives = record { number = number; stacks = t .stacks; winnings = t .«player_winnings»; rewards = padded (pos 0) [] } }
 
+-- a list for 16 seats: a, b and c for seats 0, 7 and 15, `three` for seat 3, and `other` for the rest
+all-but : {A : Type 0} → A → A → A → A → A → List A
+all-but a b c three other = a ∷ other ∷ other ∷ three ∷ other ∷ other ∷ other ∷ b ∷ replicate 7 other ++ c ∷ []
+
+-- a chip of each seat, and two of seat 3
+ones : List ℕ
+ones = all-but 1 1 1 2 1
+
+wins-three : List ℕ
+wins-three = all-but 9 9 9 9 4
+
+shares : ℕ → ℕ → ℕ → List ℕ
+shares a b c = all-but a b c 0 0
+
+nets : ℤ → ℤ → ℤ → List ℤ
+nets a b c = all-but a b c (negsuc 1) (negsuc 0)
+
 cases : List Case
 cases =
     -- the best rank reached the lower level alone
-    paid 6 1 70 (10 ∷ 30 ∷ 30 ∷ []) (9 ∷ 5 ∷ 5 ∷ []) (30 ∷ 20 ∷ 20 ∷ []) (pos 20 ∷ negsuc 9 ∷ negsuc 9 ∷ [])
-    -- an odd chip, and a seat that folded
-    ∷ paid 6 0 15 (5 ∷ 5 ∷ 5 ∷ []) (1 ∷ 1 ∷ 1 ∷ []) (0 ∷ 8 ∷ 7 ∷ []) (negsuc 4 ∷ pos 3 ∷ pos 2 ∷ [])
-    -- odd chips are per layer
-    ∷ paid 14 0 27 (6 ∷ 5 ∷ 8 ∷ 8 ∷ []) (1 ∷ 1 ∷ 1 ∷ 1 ∷ []) (0 ∷ 7 ∷ 11 ∷ 9 ∷ []) (negsuc 5 ∷ pos 2 ∷ pos 3 ∷ pos 1 ∷ [])
+    paid 0 6 1 70 (10 ∷ 30 ∷ 30 ∷ []) (9 ∷ 5 ∷ 5 ∷ []) (30 ∷ 20 ∷ 20 ∷ []) (pos 20 ∷ negsuc 9 ∷ negsuc 9 ∷ [])
+    -- an odd chip, and a seat that folded: each seat as the dealer
+    ∷ paid 0 6 0 15 (5 ∷ 5 ∷ 5 ∷ []) (1 ∷ 1 ∷ 1 ∷ []) (0 ∷ 8 ∷ 7 ∷ []) (negsuc 4 ∷ pos 3 ∷ pos 2 ∷ [])
+    ∷ paid 1 6 0 15 (5 ∷ 5 ∷ 5 ∷ []) (1 ∷ 1 ∷ 1 ∷ []) (0 ∷ 7 ∷ 8 ∷ []) (negsuc 4 ∷ pos 2 ∷ pos 3 ∷ [])
+    ∷ paid 2 6 0 15 (5 ∷ 5 ∷ 5 ∷ []) (1 ∷ 1 ∷ 1 ∷ []) (0 ∷ 8 ∷ 7 ∷ []) (negsuc 4 ∷ pos 3 ∷ pos 2 ∷ [])
+    -- two layers with odd chips, two below and one above: in each they go from the seat after the dealer
+    ∷ paid 0 14 0 27 (6 ∷ 5 ∷ 8 ∷ 8 ∷ []) (1 ∷ 1 ∷ 1 ∷ 1 ∷ []) (0 ∷ 7 ∷ 11 ∷ 9 ∷ []) (negsuc 5 ∷ pos 2 ∷ pos 3 ∷ pos 1 ∷ [])
+    ∷ paid 1 14 0 27 (6 ∷ 5 ∷ 8 ∷ 8 ∷ []) (1 ∷ 1 ∷ 1 ∷ 1 ∷ []) (0 ∷ 6 ∷ 11 ∷ 10 ∷ []) (negsuc 5 ∷ pos 1 ∷ pos 3 ∷ pos 2 ∷ [])
+    ∷ paid 2 14 0 27 (6 ∷ 5 ∷ 8 ∷ 8 ∷ []) (1 ∷ 1 ∷ 1 ∷ 1 ∷ []) (0 ∷ 7 ∷ 9 ∷ 11 ∷ []) (negsuc 5 ∷ pos 2 ∷ pos 1 ∷ pos 3 ∷ [])
+    -- 16 seats, of which seats 0, 7 and 15 win 17 chips, two of them odd: the dealer last, and the last but one
+    ∷ paid 15 65527 0 17 ones wins-three (shares 6 6 5) (nets (pos 5) (pos 5) (pos 4))
+    ∷ paid 14 65527 0 17 ones wins-three (shares 6 5 6) (nets (pos 5) (pos 4) (pos 5))
     -- a contender with no bet beside levels
-    ∷ paid 7 0 16 (0 ∷ 8 ∷ 8 ∷ []) (9 ∷ 1 ∷ 1 ∷ []) (0 ∷ 8 ∷ 8 ∷ []) (pos 0 ∷ pos 0 ∷ pos 0 ∷ [])
+    ∷ paid 0 7 0 16 (0 ∷ 8 ∷ 8 ∷ []) (9 ∷ 1 ∷ 1 ∷ []) (0 ∷ 8 ∷ 8 ∷ []) (pos 0 ∷ pos 0 ∷ pos 0 ∷ [])
     -- nothing to pay
-    ∷ paid 3 0 0 (0 ∷ 0 ∷ []) (1 ∷ 2 ∷ []) (0 ∷ 0 ∷ []) (pos 0 ∷ pos 0 ∷ [])
+    ∷ paid 0 3 0 0 (0 ∷ 0 ∷ []) (1 ∷ 2 ∷ []) (0 ∷ 0 ∷ []) (pos 0 ∷ pos 0 ∷ [])
     -- 19, and before 24
     ∷ refused 19 (seated 8 0 15 [] (5 ∷ 5 ∷ 5 ∷ []) [])
     ∷ refused 19 (seated 8 0 15 [] (5 ∷ 5 ∷ 5 ∷ []) (chips 1 ∷ []))
@@ -112,5 +141,5 @@ cases =
     ∷ []
 
 right : map (λ c. seen (settledOf (c .table) (c .ranks))) cases ≡ map (λ c. c .gives) cases
-unfolding cases paid refused seated seen padded chips half minus-zero settledOf anyWon inChips raised raisedAll rewardsOf countedOf firstOf soundFrame boardOk cardsOk goodAdded isWhole chipsIn allWhole sumChips sumTo allTo mostTo anyTo filled has with countTo seatsWhere ahead shareOf contends isLevel top levelBelow isLayer potOf putIn holds reached best wins share award isPayable awardsOf ofInt add eq ne le lt
+unfolding cases paid refused seated dealt all-but ones wins-three shares nets seen padded chips half minus-zero settledOf anyWon inChips raised raisedAll rewardsOf countedOf afterDealer soundFrame boardOk cardsOk goodAdded isWhole chipsIn allWhole sumChips sumTo allTo mostTo anyTo filled has with countTo seatsWhere ahead shareOf contends isLevel top levelBelow isLayer potOf putIn holds reached best wins share award isPayable awardsOf ofInt add eq ne le lt
 right = refl

@@ -1,7 +1,7 @@
 // Settlement, which the Rust lacks: the pot of a record goes to its contenders, layer by layer, and each seat's reward is told.
 ghost use mathlib.Core.Path.{_≡_};
 ghost use Prim.Native.Nat.{_≤_};
-ghost use Rattle.settlement.specs.Hand.{handOf};
+ghost use Rattle.settlement.specs.Hand.{afterDealer, handOf};
 ghost use Rattle.settlement.specs.Settlement.{settleRows, paidOut, settledOf};
 ghost use Rattle.refusals.specs.Rows.{judge};
 use layers::Hand;
@@ -20,17 +20,32 @@ pub struct Settled {
     pub rewards: [i32; 16],
 }
 
-// The hand in whole chips. Odd chips go from seat 0 upward.
+// The first seat after the dealer, going round. A dealer without a seat is refused as 19, and here gives seat 0.
+fn after_dealer(dealer: usize, n: usize) -> usize
+    ensures { λ r. ⌜ r ≡ afterDealer n dealer ⌝ }
+{
+    if dealer < n {
+        let next = dealer + 1;
+        if next < n {
+            return next;
+        }
+    }
+    0
+}
+
+// The hand in whole chips. Odd chips go in order from the first seat after the dealer.
 fn hand_of(table: GameState, ranks: [u16; 16]) -> Hand
     ensures { λ r. ⌜ r ≡ handOf table ranks ⌝ }
 {
     let bets = table.player_bet;
     let chips = paying::counted(bets);
+    let n = table.num_players;
+    let first = after_dealer(table.dealer_idx, n);
     Hand {
-        n: table.num_players,
+        n,
         active: table.player_active.set,
         all_in: table.player_all_in.set,
-        first: 0,
+        first,
         bets: chips,
         ranks,
     }

@@ -1,27 +1,28 @@
 //! Settlement by hand, one chip at a time: a second method to hold the layers' formulae against.
 //!
 //! Each seat's bet is a pile, and the table is cleared from the felt upward: first every pile's
-//! lowest chip, then every pile's second, and so on. A chip is dealt to the seats that may win at its
-//! height, one chip each, round and round from the seat `first`. The round starts anew when the
-//! height passes a contender's whole pile, since the seats that may win are others from there on.
-//! No chip is counted, no amount is divided, and no layer is measured.
+//! lowest chip, then every pile's second, and so on. The chips of one height are dealt, one each and
+//! round and round, to the seats that may win there. Each chip goes to the first such seat after the
+//! one that took the last chip; the first chip goes to the first such seat after the dealer. This
+//! begins again when the height passes a contender's whole pile, since the seats that may win are
+//! others from there on. No chip is counted, no amount is divided, and no layer is measured.
 
-/// What each seat gets. `first` is below the number of seats; with no contender nobody gets a chip.
-pub fn awards(bets: &[u32], contends: &[bool], ranks: &[u16], first: usize) -> Vec<u32> {
+/// What each seat gets. The dealer is one of the seats; with no contender nobody gets a chip.
+pub fn awards(bets: &[u32], contends: &[bool], ranks: &[u16], dealer: usize) -> Vec<u32> {
     let mut awarded = vec![0; bets.len()];
-    let mut next = first;
+    let mut took_the_last = dealer;
     let mut last_mark = None;
     for height in 1..=bets.iter().copied().max().unwrap_or(0) {
         let mark = mark_at(height, bets, contends);
         if last_mark != Some(mark) {
-            next = first;
+            took_the_last = dealer;
             last_mark = Some(mark);
         }
         let takers = takers(mark, bets, contends, ranks);
         for _chip in bets.iter().filter(|&&pile| pile >= height) {
-            if let Some(seat) = going_round(next, bets.len()).find(|seat| takers[*seat]) {
+            if let Some(seat) = after(took_the_last, bets.len()).find(|seat| takers[*seat]) {
                 awarded[seat] += 1;
-                next = (seat + 1) % bets.len();
+                took_the_last = seat;
             }
         }
     }
@@ -46,59 +47,63 @@ fn takers(mark: u32, bets: &[u32], contends: &[bool], ranks: &[u16]) -> Vec<bool
         .collect()
 }
 
-/// The seats of a table of n in order from a seat on.
-fn going_round(from: usize, n: usize) -> impl Iterator<Item = usize> {
-    (0..n).map(move |step| (from + step) % n)
+/// The seats of a table of n in order after a seat, which itself comes last.
+fn after(seat: usize, n: usize) -> impl Iterator<Item = usize> {
+    (seat + 1..n).chain(0..=seat)
 }
 
 #[cfg(test)]
 mod tests {
     use super::awards;
 
-    /// All seats contend but those named as folded; odd chips start at seat 0.
-    fn dealt(bets: &[u32], folded: &[usize], ranks: &[u16]) -> Vec<u32> {
-        dealt_from(0, bets, folded, ranks)
-    }
-
-    fn dealt_from(first: usize, bets: &[u32], folded: &[usize], ranks: &[u16]) -> Vec<u32> {
+    /// All seats contend but those named as folded.
+    fn dealt(dealer: usize, bets: &[u32], folded: &[usize], ranks: &[u16]) -> Vec<u32> {
         let contends: Vec<bool> = (0..bets.len()).map(|i| !folded.contains(&i)).collect();
-        awards(bets, &contends, ranks, first)
+        awards(bets, &contends, ranks, dealer)
     }
 
     #[test]
     fn a_short_stack_wins_the_main_pot() {
-        assert_eq!(dealt(&[10, 30, 30], &[], &[9, 5, 5]), [30, 20, 20]);
+        assert_eq!(dealt(0, &[10, 30, 30], &[], &[9, 5, 5]), [30, 20, 20]);
     }
 
     #[test]
-    fn the_odd_chip_goes_to_the_first_winner() {
-        assert_eq!(dealt(&[5, 5, 5], &[0], &[4, 4, 4]), [0, 8, 7]);
-        assert_eq!(dealt_from(1, &[5, 5, 5], &[0], &[4, 4, 4]), [0, 8, 7]);
-        assert_eq!(dealt_from(2, &[5, 5, 5], &[0], &[4, 4, 4]), [0, 7, 8]);
+    fn the_odd_chip_goes_to_the_first_winner_after_the_dealer() {
+        assert_eq!(dealt(0, &[5, 5, 5], &[0], &[4, 4, 4]), [0, 8, 7]);
+        assert_eq!(dealt(1, &[5, 5, 5], &[0], &[4, 4, 4]), [0, 7, 8]);
+        assert_eq!(dealt(2, &[5, 5, 5], &[0], &[4, 4, 4]), [0, 8, 7]);
+    }
+
+    #[test]
+    fn the_dealer_comes_last() {
+        assert_eq!(dealt(0, &[1, 1, 1], &[2], &[4, 4, 4]), [1, 2, 0]);
+        assert_eq!(dealt(1, &[1, 1, 1], &[2], &[4, 4, 4]), [2, 1, 0]);
     }
 
     #[test]
     fn odd_chips_are_dealt_layer_by_layer() {
-        assert_eq!(dealt(&[6, 5, 8, 8], &[0], &[3, 3, 3, 3]), [0, 7, 11, 9]);
+        assert_eq!(dealt(0, &[6, 5, 8, 8], &[0], &[3, 3, 3, 3]), [0, 7, 11, 9]);
+        assert_eq!(dealt(1, &[6, 5, 8, 8], &[0], &[3, 3, 3, 3]), [0, 6, 11, 10]);
+        assert_eq!(dealt(2, &[6, 5, 8, 8], &[0], &[3, 3, 3, 3]), [0, 7, 9, 11]);
     }
 
     #[test]
     fn a_contender_with_no_bet_wins_nothing_beside_levels() {
-        assert_eq!(dealt(&[0, 8, 8], &[], &[9, 1, 1]), [0, 8, 8]);
+        assert_eq!(dealt(0, &[0, 8, 8], &[], &[9, 1, 1]), [0, 8, 8]);
     }
 
     #[test]
     fn folded_chips_above_the_top_join_it() {
-        assert_eq!(dealt(&[9, 4, 4], &[0], &[7, 1, 2]), [0, 0, 17]);
+        assert_eq!(dealt(0, &[9, 4, 4], &[0], &[7, 1, 2]), [0, 0, 17]);
     }
 
     #[test]
     fn with_no_level_all_contenders_play_for_everything() {
-        assert_eq!(dealt(&[7, 0, 0], &[0], &[9, 2, 2]), [0, 4, 3]);
+        assert_eq!(dealt(0, &[7, 0, 0], &[0], &[9, 2, 2]), [0, 4, 3]);
     }
 
     #[test]
     fn nobody_left_gets_nothing() {
-        assert_eq!(dealt(&[3, 4], &[0, 1], &[0, 0]), [0, 0]);
+        assert_eq!(dealt(0, &[3, 4], &[0, 1], &[0, 0]), [0, 0]);
     }
 }

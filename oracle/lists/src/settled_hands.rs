@@ -1,5 +1,5 @@
-//! The settlements that document 01 and its readings tell in words, and both
-//! sides of each refusal. They head the list `settlements`.
+//! The settlements that documents 01 and 02 and their readings tell in words, and
+//! both sides of each refusal. They head the list `settlements`.
 
 use crate::settlement::{self, MOST_CHIPS};
 use crate::table::{Table, first_seats, place};
@@ -12,6 +12,7 @@ pub fn all() -> Vec<(Table, Vec<u16>)> {
         let ranks = vec![4; settlement::rank_count(&table)];
         (table, ranks)
     }));
+    hands.extend(by_dealer());
     hands
 }
 
@@ -32,6 +33,26 @@ fn worked() -> Vec<(Table, Vec<u16>)> {
             vec![0, 65535],
         ),
     ]
+}
+
+/// Odd chips of one layer and of two, with another dealer than seat 0; and 16
+/// seats with the dealer last, and last but one.
+fn by_dealer() -> Vec<(Table, Vec<u16>)> {
+    let three_win = |seat| if [0, 3, 7, 15].contains(&seat) { 9 } else { 4 };
+    let sixteen = hand(&[1, 1, 1, 2, 1, 1, 1, 1, 1, 1, 1, 1, 1, 1, 1, 1], 0b1000);
+    let mut hands = vec![];
+    for (hand, ranks, dealers) in [
+        (hand(&[5, 5, 5], 0b1), vec![4; 3], 1..3),
+        (hand(&[6, 5, 8, 8], 0b1), vec![3; 4], 1..4),
+        (sixteen, (0..16).map(three_win).collect(), 14..16),
+    ] {
+        for dealer in dealers {
+            let mut table = hand.clone();
+            table.set(place::DEALER_IDX, dealer);
+            hands.push((table, ranks.clone()));
+        }
+    }
+    hands
 }
 
 /// Each of 19, 24, 23 and 22 with all those after it on the same table.

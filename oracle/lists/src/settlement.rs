@@ -1,5 +1,5 @@
 //! One settlement of a record. The Rust has none: the refusals are by document
-//! 01's conditions, and the awards are dealt chip by chip.
+//! 01's conditions, and the awards are dealt chip by chip from the dealer's left.
 
 use crate::chip_by_chip;
 use crate::line::Line;
@@ -80,12 +80,12 @@ fn contenders(table: &Table) -> u16 {
     table.seats(place::PLAYER_ACTIVE) | table.seats(place::PLAYER_ALL_IN)
 }
 
-/// The table with its awards, odd chips from seat 0 upward.
+/// The table with its awards.
 fn paid(table: &Table, ranks: &[u16]) -> Table {
     let n = table.get(place::NUM_PLAYERS);
     let bets: Vec<u32> = table.floats(place::HAND_BETS, n).map(chips).collect();
     let contends: Vec<bool> = (0..n).map(|seat| contenders(table) >> seat & 1 == 1).collect();
-    let awards = chip_by_chip::awards(&bets, &contends, ranks, 0);
+    let awards = chip_by_chip::awards(&bets, &contends, ranks, table.get(place::DEALER_IDX));
     let mut after = table.clone();
     for (seat, &award) in awards.iter().enumerate() {
         // What gets no chip is not written: a stack of -0.0 stays.

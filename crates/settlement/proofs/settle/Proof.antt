@@ -25,7 +25,8 @@ returns-2 : tie.Need-returns-2
 returns-2 c =
     let at-verdict = c .before .before .before in
     let at-payable = at-verdict .before in
-    settled-by _ _ _ _ _ _ (at-payable .before .hand-of .ensures) (at-payable .is-payable .ensures) (at-verdict .verdict .ensures) (c .before .r .given .1)
+    let a = at-payable .before .before .args in
+    settled-by (a .table) (a .ranks) _ _ _ _ (at-payable .before .hand-of .ensures) (at-payable .is-payable .ensures) (at-verdict .verdict .ensures) (c .before .r .given .1)
 
 pub settle-spec : {M : Type 1} → statement M
 settle-spec =

@@ -7,6 +7,7 @@ pub fn all() -> Vec<Case> {
     let mut cases: Vec<Case> = HANDS.iter().map(|hand| hand.case()).collect();
     cases.push(every_rank_order());
     cases.push(every_share());
+    cases.push(every_dealer());
     cases
 }
 
@@ -21,18 +22,23 @@ struct Hand {
 
 impl Hand {
     fn case(&self) -> Case {
-        Case::new(self.what, played(self.bets, self.spare, self.folded, self.ranks))
+        Case::new(self.what, self.played(0))
+    }
+
+    fn played(&self, dealer: usize) -> String {
+        played(dealer, self.bets, self.spare, self.folded, self.ranks)
     }
 }
 
-/// Each seat posts its bet. Then those who fold do, and the others post 0.
-fn played(bets: &[u16], spare: &[u16], folded: &[usize], ranks: &[u16]) -> String {
+/// Each seat posts its bet, the dealer first. Then those who fold do, and the others post 0.
+fn played(dealer: usize, bets: &[u16], spare: &[u16], folded: &[usize], ranks: &[u16]) -> String {
     let stacks = bets.iter().zip(spare).map(|(bet, spare)| format!(" {}", bet + spare));
-    let posted = bets.iter().map(|bet| format!("p {bet}\n"));
-    let with_chips = (0..bets.len()).filter(|&seat| spare[seat] > 0);
+    let in_turn = || (0..bets.len()).map(|place| (dealer + place) % bets.len());
+    let posted = in_turn().map(|seat| format!("p {}\n", bets[seat]));
+    let with_chips = in_turn().filter(|&seat| spare[seat] > 0);
     let turns = with_chips.map(|seat| if folded.contains(&seat) { "f\n" } else { "p 0\n" });
     let ranks = ranks.iter().map(|rank| format!(" {rank}"));
-    let mut script = format!("t 0 1 0 0{}\n", stacks.collect::<String>());
+    let mut script = format!("t {dealer} 1 0 0{}\n", stacks.collect::<String>());
     script.extend(posted);
     script.extend(turns);
     script + &format!("x\nw{}\n", ranks.collect::<String>()) + &shown(bets.len())
@@ -276,6 +282,13 @@ const HANDS: &[Hand] = &[
         folded: &[],
         ranks: &[1, 1, 1, 1, 1, 1, 1, 1, 1, 1, 1, 0, 0, 0, 0, 0],
     },
+    Hand {
+        what: "two odd chips for three of sixteen",
+        bets: &[1, 1, 1, 2, 1, 1, 1, 1, 1, 1, 1, 1, 1, 1, 1, 1],
+        spare: &[0, 0, 0, 3, 0, 0, 0, 0, 0, 0, 0, 0, 0, 0, 0, 0],
+        folded: &[3],
+        ranks: &[9, 4, 4, 9, 4, 4, 4, 9, 4, 4, 4, 4, 4, 4, 4, 9],
+    },
 ];
 
 /// One hand of three levels, settled by every order of three ranks and their ties.
@@ -283,7 +296,7 @@ fn every_rank_order() -> Case {
     let mut script = String::new();
     for code in 0..27 {
         let ranks = [code % 3, code / 3 % 3, code / 9];
-        script += &played(&[5, 11, 18], &[0, 0, 0], &[], &ranks);
+        script += &played(0, &[5, 11, 18], &[0, 0, 0], &[], &ranks);
     }
     Case::new("stacks of 5, 11 and 18, by every order of ranks", script)
 }
@@ -293,8 +306,24 @@ fn every_share() -> Case {
     let mut script = String::new();
     for first in 0..10 {
         for ranks in [[1, 1, 0, 0], [0, 1, 1, 1], [1, 1, 1, 1]] {
-            script += &played(&[first, 4, 4, 4], &[1, 1, 1, 1], &[0], &ranks);
+            script += &played(0, &[first, 4, 4, 4], &[1, 1, 1, 1], &[0], &ranks);
         }
     }
     Case::new("pots of 12 to 21 chips among those who did not fold", script)
+}
+
+/// Hands with odd chips, of one layer, of two and of sixteen seats, with each seat as the dealer.
+fn every_dealer() -> Case {
+    let names = [
+        "the odd chip to the first winner",
+        "odd chips of two layers",
+        "two odd chips for three of sixteen",
+    ];
+    let mut script = String::new();
+    for hand in HANDS.iter().filter(|hand| names.contains(&hand.what)) {
+        for dealer in 0..hand.bets.len() {
+            script += &hand.played(dealer);
+        }
+    }
+    Case::new("odd chips, with each seat as the dealer", script)
 }

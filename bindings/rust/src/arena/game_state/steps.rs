@@ -62,7 +62,8 @@ impl GameState {
 
     /// Pays the pot out by a rank for each seat, higher is better (added); gives each seat's reward in chips.
     ///
-    /// Ranks and rewards from `num_players` on mean nothing.
+    /// Odd chips go one each to a layer's winners in order from the first seat after the dealer. Ranks and rewards
+    /// from `num_players` on mean nothing.
     pub fn settle(
         &mut self,
         ranks: &[u16; MAX_PLAYERS],
