@@ -104,6 +104,11 @@ module _ (n first s amount : ℕ) where
       more : (a b r : ℕ) → a ≤ b → cond (ltb b r) 1 0 ≤ cond (ltb a r) 1 0
       more a b r h = ⊎-elim (λ k. rw (lt-ltb a r (omega arith), lt-ltb b r k) (omega arith)) (λ g. rw (le-ltb b r g) (omega arith)) (lt-or-le b r)
 
+  -- what one of the set gets, with w in the set and b ahead of it
+  pub share-by : (i w b : ℕ) → has s i ≡ true → countTo n s ≡ w → ahead n first s i ≡ b → shareOf n first s amount i ≡ amount / w + cond (ltb b (amount % w)) 1 0
+  unfolding shareOf
+  share-by i w b y all before = λ j. cond (y j) (amount / all j + cond (ltb (before j) (amount % all j)) 1 0) 0
+
   -- what the code makes of its counts is a share: w in the set, f of them below `first`, k below i
   pub share-made : (i w f k : ℕ) → w ≡ countTo n s → f ≡ countTo first s → k ≡ countTo i s
       → cond (has s i) (amount / w + cond (ltb (cond (leb first i) (k - f) (w - f + k)) (amount % w)) 1 0) 0 ≡ shareOf n first s amount i

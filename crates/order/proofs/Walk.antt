@@ -1,7 +1,7 @@
 -- The walk from seat s round a table of n: the first seat on that f holds, one place on where none is held. It moves, passes no seat of f, and comes to one if there is one.
 -- Assumes nothing.
 use Prim.Native.Nat.{ℕ, _+_, _-_, _%_, _≤_, _<_}
-use native.Mathlib.Nat.{mod-eq-of-lt, mod-eq-sub-mod, add-mod-right, mod-add-mod}
+use native.Mathlib.Nat.{mod-eq-of-lt, mod-eq-sub-mod}
 use native.Mathlib.Omega.{arith}
 use mathlib.Core.Path.{_≡_, sym, ap, _∙_}
 use mathlib.Core.Logic.{⊎-elim, _≢_}
@@ -10,6 +10,7 @@ use Rattle.commons.specs.First.{firstFrom}
 use Rattle.commons.proofs.First.{first-cases}
 use Rattle.commons.proofs.Bools.{differ}
 use Rattle.commons.proofs.Order.{lt-or-le}
+use Rattle.rounds.proofs.Walk.{on-on, clockwise, clockwise-low, clockwise-high, seat-at}
 
 -- how far it goes
 abbrev pub gap : ℕ → (ℕ → Bool) → ℕ → ℕ
@@ -18,11 +19,7 @@ gap n f s = firstFrom n 1 1 (λ d. f ((s + d) % n))
 -- ---- round the table
 -- the seat j is 1 to n places on from s
 place : (n s j : ℕ) → s < n → j < n → (i : ℕ) × (1 ≤ i) × (i ≤ n) × ((s + i) % n ≡ j)
-place n s j S J =
-    ⊎-elim
-    (λ (l : s < j). let e : s + (j - s) ≡ j = omega arith in (j - s, omega arith, omega arith, rw e (mod-eq-of-lt J)))
-    (λ (g : j ≤ s). let e : s + (j + n - s) ≡ j + n = omega arith in (j + n - s, omega arith, omega arith, rw e (add-mod-right j n ∙ mod-eq-of-lt J)))
-    (lt-or-le s j)
+place n s j S J = (clockwise n s j, clockwise-low n s S j, clockwise-high n s S j J, seat-at n s j S J)
 
 -- fewer than n places on is another seat
 pub elsewhere : (n s d : ℕ) → s < n → 0 < d → d < n → (s + d) % n ≢ s
@@ -34,7 +31,7 @@ elsewhere n s d h p l e =
 
 -- d places on, as g places and then the rest
 pub further : (n s g d : ℕ) → g ≤ d → ((s + g) % n + (d - g)) % n ≡ (s + d) % n
-further n s g d h = let e : s + g + (d - g) ≡ s + d = omega arith in mod-add-mod (s + g) n (d - g) ∙ rw e
+further n s g d h = let e : g + (d - g) ≡ d = omega arith in on-on n s g (d - g) ∙ rw e
 
 -- ---- the walk
 module _ (n : ℕ) (f : ℕ → Bool) (s : ℕ) where

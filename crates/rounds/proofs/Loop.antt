@@ -1,6 +1,6 @@
 -- The walk's loop: after m moves it stands at the seat m on and has passed no seat that owes. Assumes nothing.
 use Prim.Native.Nat.{ℕ, _+_, _%_, _<_, _≤_}
-use native.Mathlib.Nat.{mod-eq-of-lt, mod-add-mod, add-zero, add-assoc}
+use native.Mathlib.Nat.{mod-eq-of-lt, add-zero}
 use native.Mathlib.Omega.{arith}
 use mathlib.Core.Path.{_≡_, refl, sym, _∙_}
 use mathlib.Core.Bool.{true, false}
@@ -8,6 +8,7 @@ use Rattle.seats.specs.Bits.{has}
 use Rattle.commons.proofs.First.{Passed, passed-on, found-at, none-is}
 use Rattle.rounds.specs.declared.walking.Reached.{Reached}
 use Rattle.rounds.specs.Walk.{seatOn, owes, distance, reachedFrom}
+use Rattle.rounds.proofs.Walk.{on-on}
 
 pub record Stands (owing n s at m : ℕ) : Type 0 where
   pub place : at ≡ seatOn n s m
@@ -18,7 +19,7 @@ pub begins : (owing n s : ℕ) → s < n → Stands owing n s s 0
 begins owing n s h = record { place = sym (rw (add-zero s) (mod-eq-of-lt h)); bound = omega arith; clear = λ j l k. absurd (omega arith) }
 
 moved-on : (n s m at r : ℕ) → at ≡ seatOn n s m → r ≡ (at + 1) % n → r ≡ seatOn n s (m + 1)
-moved-on n s m at r p q = q ∙ rw (p, mod-add-mod (s + m) n 1, add-assoc s m 1)
+moved-on n s m at r p q = q ∙ rw p (on-on n s m 1)
 
 ends-at : (owing n s r d : ℕ) → r ≡ seatOn n s d → distance owing n s ≡ d → _≡_ {A = Reached} (record { seat = r; passed = d }) (reachedFrom owing n s)
 ends-at owing n s r d e q = rw (q, e)

@@ -1,7 +1,7 @@
 -- What the walk's definition comes to, of a seat s at a table of n: it passes to 1 to n seats, the clockwise distance, n where it comes back;
 -- it reaches a seat that owes if any does, and passes over none. `table` and `order` cite these. Assumes nothing.
 use Prim.Native.Nat.{ℕ, _+_, _-_, _%_, _<_, _≤_}
-use native.Mathlib.Nat.{mod-eq-of-lt, mod-lt, add-mod-right}
+use native.Mathlib.Nat.{mod-eq-of-lt, mod-lt, add-mod-right, mod-add-mod, add-assoc}
 use native.Mathlib.Omega.{arith}
 use mathlib.Core.Path.{_≡_, refl, sym, ap, _∙_}
 use mathlib.Core.Bool.{Bool, true, false, cond, _&&_}
@@ -14,6 +14,10 @@ use Rattle.commons.proofs.First.{Found, Nowhere, first-cases}
 use Rattle.commons.proofs.Order.{lt-or-le}
 use Rattle.commons.proofs.Bools.{differ, and-both}
 use Rattle.rounds.specs.Walk.{seatOn, owes, distance, reachedFrom, walkOf}
+
+-- a places on and then b are a + b places on
+pub on-on : (n s a b : ℕ) → seatOn n (seatOn n s a) b ≡ seatOn n s (a + b)
+on-on n s a b = mod-add-mod (s + a) n b ∙ ap (λ (k : ℕ). k % n) (add-assoc s a b)
 
 -- from s clockwise to t: n where they are the same
 abbrev pub clockwise : ℕ → ℕ → ℕ → ℕ
@@ -42,10 +46,10 @@ clockwise-of n s d h l k = ⊎-elim
     (lt-or-le (s + d) n)
 
 module _ (n s : ℕ) (h : s < n) where
-  clockwise-low : (t : ℕ) → 1 ≤ clockwise n s t
+  pub clockwise-low : (t : ℕ) → 1 ≤ clockwise n s t
   clockwise-low t = ⊎-elim (λ l. rw (lt-ltb s t l) (omega arith)) (λ l. rw (le-ltb s t l) (omega arith)) (lt-or-le s t)
 
-  clockwise-high : (t : ℕ) → t < n → clockwise n s t ≤ n
+  pub clockwise-high : (t : ℕ) → t < n → clockwise n s t ≤ n
   clockwise-high t k = ⊎-elim (λ l. rw (lt-ltb s t l) (omega arith)) (λ l. rw (le-ltb s t l) (omega arith)) (lt-or-le s t)
 
 module _ (owing n s : ℕ) (h : s < n) where

@@ -1,35 +1,32 @@
 -- Of the winners of a layer, those who get an odd chip are the first so many, going round from the seat after the dealer. Assumes nothing.
 use Prim.Native.Nat.{ℕ, zero, suc, _+_, _-_, _/_, _%_, _≤_, _<_}
-use native.Mathlib.Nat.{add-zero, add-suc, add-assoc, add-mod-right, mod-add-mod, mod-eq-of-lt, mod-self}
+use native.Mathlib.Nat.{add-zero, add-suc, add-mod-right, mod-eq-of-lt, mod-eq-sub-mod}
 use native.Mathlib.Omega.{arith}
 use mathlib.Core.Path.{_≡_, sym, ap, _∙_}
 use mathlib.Core.Logic.{⊎-elim}
 use mathlib.Core.Bool.{true, cond}
 use mathlib.Core.List.{List}
-use lib.Dec.{leb, ltb}
-use borrow.Author.Tests.{lt-ltb, le-ltb, le-leb, lt-leb}
+use lib.Dec.{ltb}
+use borrow.Author.Tests.{le-leb, lt-leb}
 use Rattle.commons.proofs.Order.{lt-or-le}
 use Rattle.commons.specs.Folds.{sumTo}
 use Rattle.commons.proofs.Folds.{sum-same}
 use Rattle.seats.specs.Bits.{has, countTo}
 use Rattle.rounds.specs.Walk.{seatOn}
-use Rattle.rounds.proofs.Walk.{clockwise}
+use Rattle.rounds.proofs.Walk.{on-on, clockwise, clockwise-low, clockwise-high, seat-at}
 use Rattle.table.specs.declared.GameState.{GameState}
 use Rattle.table.proofs.Sound.{Sound, sound}
 use Rattle.layers.specs.declared.Hand.{Hand}
-use Rattle.layers.specs.Sharing.{ahead, shareOf}
+use Rattle.layers.specs.Sharing.{ahead}
 use Rattle.layers.specs.Settlement.{holds, wins, winners, share}
 use Rattle.layers.proofs.Seats.{count-suc, count-up, count-most}
+use Rattle.layers.proofs.Sharing.{share-by}
 use Rattle.layers.proofs.Winning.{has-winners, wins-in}
 use Rattle.refusals.specs.declared.Verdict.the-variants.{Stands}
 use Rattle.settlement.specs.Hand.{firstOf, handOf}
 use Rattle.settlement.specs.Settlement.{settledOf}
 use Rattle.settlement.proofs.Accepted.{accepted}
 use Rattle.settlement.proofs.Whole.{first-is, first-in}
-
--- how many places on from the seat `first` seat i lies, round a table of n
-abbrev place : ℕ → ℕ → ℕ → ℕ
-place n first i = cond (leb first i) (i - first) (n - first + i)
 
 -- ---- a set met seat by seat, going round from the seat `first`
 module _ (n first s : ℕ) (l : first < n) where
@@ -64,40 +61,20 @@ module _ (n first s : ℕ) (l : first < n) where
       let a : sumTo n here ≡ countTo n s - countTo first s + countTo first s = rw e at (met-high first (omega arith)) in
       omega (arith, count-most first n s (omega arith))
 
-  pub ahead-met : (i : ℕ) → i < n → sumTo (place n first i) here ≡ ahead n first s i
+  pub ahead-met : (d : ℕ) → d < n → sumTo d here ≡ ahead n first s (seatOn n first d)
   unfolding ahead
-  ahead-met i h =
+  ahead-met d h =
       ⊎-elim
-      (λ b. rw (lt-leb first i b) (met-high i (omega arith)))
       (λ b.
-      let e : first + (i - first) ≡ i = omega arith in
-      let a : first + (i - first) ≤ n = omega arith in
-      rw (le-leb first i b) (rw e at (met-low (i - first) a)))
-      (lt-or-le i first)
-
--- a share, of w in the set and b ahead
-share-by : (n first s amount i w b : ℕ) → has s i ≡ true → countTo n s ≡ w → ahead n first s i ≡ b → shareOf n first s amount i ≡ amount / w + cond (ltb b (amount % w)) 1 0
-unfolding shareOf
-share-by n first s amount i w b y all before = λ j. cond (y j) (amount / all j + cond (ltb (before j) (amount % all j)) 1 0) 0
-
--- ---- k places on from the seat after the dealer is 1 + k places on from the dealer
-on-from : (n dealer k : ℕ) → seatOn n (seatOn n dealer 1) k ≡ seatOn n dealer (1 + k)
-on-from n dealer k = mod-add-mod (dealer + 1) n k ∙ ap (λ (x : ℕ). x % n) (add-assoc dealer 1 k)
-
-place-from : (n dealer i : ℕ) → dealer < n → i < n → place n (seatOn n dealer 1) i ≡ clockwise n dealer i - 1
-place-from n dealer i d h =
-    ⊎-elim
-    (λ l.
-    let m : (dealer + 1) % n ≡ dealer + 1 = mod-eq-of-lt l in
-    rw m (⊎-elim
-    (λ b. rw (lt-ltb dealer i b, le-leb (dealer + 1) i (omega arith)) (omega arith))
-    (λ b. rw (le-ltb dealer i b, lt-leb (dealer + 1) i (omega arith)) (omega arith))
-    (lt-or-le dealer i)))
-    (λ g.
-    let e : dealer + 1 ≡ n = omega arith in
-    let z : (dealer + 1) % n ≡ 0 = rw e (mod-self n) in
-    rw (z, le-ltb dealer i (omega arith), le-leb 0 i (omega arith)) (omega arith))
-    (lt-or-le (dealer + 1) n)
+      let m : (first + d) % n ≡ first + d = mod-eq-of-lt b in
+      rw (m, le-leb first (first + d) (omega arith)) (met-low d (omega arith)))
+      (λ g.
+      let k : first + d - n < first = omega arith in
+      let m : (first + d) % n ≡ first + d - n = mod-eq-sub-mod g ∙ mod-eq-of-lt (omega arith) in
+      let q : n - first + (first + d - n) ≡ d = omega arith in
+      let a : sumTo d here ≡ countTo n s - countTo first s + countTo (first + d - n) s = rw q at (met-high (first + d - n) (omega arith)) in
+      rw (m, lt-leb first (first + d - n) k) a)
+      (lt-or-le (first + d) n)
 
 module _ (t : GameState) (ranks : List ℕ) where
   abbrev n : ℕ
@@ -106,17 +83,20 @@ module _ (t : GameState) (ranks : List ℕ) where
   abbrev hand : Hand
   hand = handOf t ranks
 
+  abbrev dealer : ℕ
+  dealer = t .«dealer_idx»
+
   -- the first seat after the dealer
   abbrev left : ℕ
-  left = seatOn n (t .«dealer_idx») 1
+  left = seatOn n dealer 1
 
   -- how many winners of the layer under u sit on the first d seats after the dealer
   abbrev pub met : ℕ → ℕ → ℕ
-  met u d = sumTo d (λ k. cond (wins hand u (seatOn n (t .«dealer_idx») (1 + k))) 1 0)
+  met u d = sumTo d (λ k. cond (wins hand u (seatOn n dealer (1 + k))) 1 0)
 
   -- how many of them come before seat i, going round from the seat after the dealer: the dealer comes last
   abbrev pub earlier : ℕ → ℕ → ℕ
-  earlier u i = met u (clockwise n (t .«dealer_idx») i - 1)
+  earlier u i = met u (clockwise n dealer i - 1)
 
   -- a winner gets an equal part, and an odd chip exactly if fewer winners come before it than there are odd chips
   pub odd-chips : settledOf t ranks .answer ≡ Stands → (u i : ℕ) → wins hand u i ≡ true
@@ -127,9 +107,14 @@ module _ (t : GameState) (ranks : List ℕ) where
       let f : firstOf t ≡ left = first-is t s in
       let l : left < n = rw f at (first-in t s) in
       let k : i < n = wins-in hand u i w in
+      let c : ℕ = clockwise n dealer i in
+      let low : 1 ≤ c = clockwise-low n dealer (s .deals) i in
+      let high : c ≤ n = clockwise-high n dealer (s .deals) i k in
+      let one : 1 + (c - 1) ≡ c = omega arith in
+      let there : seatOn n left (c - 1) ≡ i = on-on n dealer 1 (c - 1) ∙ ap (seatOn n dealer) one ∙ seat-at n dealer i (s .deals) k in
       let same : (d : ℕ) → sumTo d (here n left (winners hand u) l) ≡ met u d =
-      λ d. sum-same d (here n left (winners hand u) l) _ (λ k b. rw (on-from n (t .«dealer_idx») k, has-winners hand (s .most) u (seatOn n (t .«dealer_idx») (1 + k)))) in
+      λ d. sum-same d (here n left (winners hand u) l) _ (λ k b. rw (on-on n dealer 1 k, has-winners hand (s .most) u (seatOn n dealer (1 + k)))) in
       let all : countTo n (winners hand u) ≡ met u n = sym (all-met n left (winners hand u) l) ∙ same n in
       let before : ahead n (firstOf t) (winners hand u) i ≡ earlier u i =
-      ap (λ (x : ℕ). ahead n x (winners hand u) i) f ∙ sym (ahead-met n left (winners hand u) l i k) ∙ ap (λ (d : ℕ). sumTo d (here n left (winners hand u) l)) (place-from n (t .«dealer_idx») i (s .deals) k) ∙ same _ in
+      (λ j. ahead n (f j) (winners hand u) (sym there j)) ∙ sym (ahead-met n left (winners hand u) l (c - 1) (omega arith)) ∙ same (c - 1) in
       share-by n (firstOf t) (winners hand u) (holds hand u) i (met u n) (earlier u i) (has-winners hand (s .most) u i ∙ w) all before

@@ -1,16 +1,15 @@
 -- The turn with which a round opens: what is told is the distance moved clockwise from the dealer. It is one walk, 1 to n seats; or, at Preflop with two
 -- seats, two walks: 2 to 4 seats, and the seat at which the first came to rest, which may owe, is passed over. Assumes nothing.
-use Prim.Native.Nat.{ℕ, _+_, _%_, _≤_, _<_}
-use native.Mathlib.Nat.{mod-add-mod, add-assoc}
+use Prim.Native.Nat.{ℕ, _+_, _≤_, _<_}
 use native.Mathlib.Omega.{arith}
-use mathlib.Core.Path.{_≡_, ap, _∙_}
+use mathlib.Core.Path.{_≡_, _∙_}
 use mathlib.Core.Bool.{Bool, true, false}
 use lib.Dec.{eqb}
 use borrow.Author.Tests.{eqb-true}
 use Rattle.commons.proofs.Bools.{and-both}
 use Rattle.rounds.specs.Order.{nextOf}
 use Rattle.rounds.specs.Walk.{seatOn, distance, walkOf, reachedFrom}
-use Rattle.rounds.proofs.Walk.{distance-low, distance-high, walk-inside, walk-seated}
+use Rattle.rounds.proofs.Walk.{on-on, distance-low, distance-high, walk-inside, walk-seated}
 use Rattle.table.specs.declared.GameState.{GameState}
 use Rattle.table.specs.Rounds.{advanceOf, advancedStep, isRound, headsUpPreflop, firstTurn, walkOn, openingTurn}
 use Rattle.table.specs.Sound.{soundOf}
@@ -39,7 +38,7 @@ module _ (owing n k : ℕ) (low : k < n) (most : n ≤ 16) where
   twice =
       let one = walk-inside owing n k low most in
       let two = walk-inside owing n rest seated most in
-      let far : seatOn n rest second ≡ seatOn n k (first + second) = mod-add-mod (k + first) n second ∙ ap (λ (s : ℕ). s % n) (add-assoc k first second) in
+      let far = on-on n k first second in
       (λ i. walkOn owing n (one i)) ∙ (λ i. record { seat = two i .seat; passed = first + two i .passed }) ∙ (λ i. record { seat = far i; passed = first + second })
 
 -- ---- of a sound table
