@@ -3,7 +3,11 @@
  * Every function takes any input. A list crosses as its first place, which is never NULL, and its length; the memory
  * must be there, and what a call writes must overlap nothing else that it is given. A table is two lists of the
  * caller's: floats (at least PEATCLOAK_FLOATS places) and numbers (at least PEATCLOAK_NUMBERS). Later versions may ask
- * for more places: a host asks peatcloak_version when it starts.
+ * for more places, or use some of those from PEATCLOAK_FREE on, and raise PEATCLOAK_LAYOUT then: a host asks
+ * peatcloak_version when it starts.
+ *
+ * A table may have the key of its hand: table code, year, hand number (since 2.2.0). A build takes it, and every call on
+ * the table leaves it as it is. Nothing else hangs on it, but that a table with year 0 and a code or a hand is 19.
  *
  * A table function answers 0, or document 01's refusal number; then nothing at all is written. 19 is also given where a
  * list is too short or a word is out of the range of what it stands for. */
@@ -22,14 +26,14 @@ extern "C" {
 
 /* ---- Written by .ci/layout from crates/layout/src/places.rt */
 
-/* The library's version: 20100 is 2.1.0. The layout's goes up when a place moves or is added. */
-#define PEATCLOAK_VERSION 20100
-#define PEATCLOAK_LAYOUT 1
+/* The library's version: 20200 is 2.2.0. The layout's goes up when a place moves or is added. */
+#define PEATCLOAK_VERSION 20200
+#define PEATCLOAK_LAYOUT 2
 
 /* How many places each list has. */
-#define PEATCLOAK_NUMBERS 24
+#define PEATCLOAK_NUMBERS 32
 #define PEATCLOAK_FLOATS 88
-#define PEATCLOAK_GIVEN 16
+#define PEATCLOAK_GIVEN 24
 #define PEATCLOAK_AMOUNTS 3
 
 /* Places of the numbers. A set of seats is the number of its bits: seat 0 is 1, seat 1 is 2, seat 2 is 4. */
@@ -54,8 +58,13 @@ enum peatcloak_number {
     PEATCLOAK_BOARD_LENGTH = 17,
     PEATCLOAK_BOARD = 18, /* five places */
     PEATCLOAK_PASSED = 23, /* answer: seats that the walk of the last accepted step passed to */
-    /* From here on stands what the Rust's record lacks: nothing yet. */
-    PEATCLOAK_ADDED = 24
+    /* From here on stands what the Rust's record lacks: the key of the hand, zeros where it has none. */
+    PEATCLOAK_ADDED = 24,
+    PEATCLOAK_KEY_CODE = 24, /* of the table, below 65536 */
+    PEATCLOAK_KEY_YEAR = 25, /* below 65536; 0 means no key */
+    PEATCLOAK_KEY_HAND = 26,
+    /* From here on no call reads or writes anything. A host keeps 0 there, for later versions. */
+    PEATCLOAK_FREE = 27
 };
 
 /* Places of the floats. A list has 16 of them, one for each seat. */
@@ -91,7 +100,13 @@ enum peatcloak_given {
     PEATCLOAK_GIVEN_HANDS = 12,
     PEATCLOAK_GIVEN_HANDS_ARE = 13,
     PEATCLOAK_GIVEN_PLAYER_BET = 14,
-    PEATCLOAK_GIVEN_ROUND_DATA = 15 /* what stands at the round's places of floats and numbers before the call */
+    PEATCLOAK_GIVEN_ROUND_DATA = 15, /* what stands at the round's places of floats and numbers before the call */
+    PEATCLOAK_GIVEN_KEY = 16, /* 0: the table has no key */
+    PEATCLOAK_GIVEN_KEY_CODE = 17, /* below 65536 */
+    PEATCLOAK_GIVEN_KEY_YEAR = 18, /* below 65536 */
+    PEATCLOAK_GIVEN_KEY_HAND = 19,
+    /* From here on nothing is read. A host keeps 0 there, for later versions. */
+    PEATCLOAK_GIVEN_FREE = 20
 };
 
 /* Places of its amounts. */
@@ -128,7 +143,9 @@ enum peatcloak_refusal {
     PEATCLOAK_COUNTER_FULL = 21,
     PEATCLOAK_NOBODY_LEFT = 22,
     PEATCLOAK_NOT_WHOLE_CHIPS = 23,
-    PEATCLOAK_ALREADY_PAID = 24
+    PEATCLOAK_ALREADY_PAID = 24,
+    PEATCLOAK_BAD_LINE = 25,
+    PEATCLOAK_SCRIPT_TOO_LONG = 26
 };
 
 /* out (4): PEATCLOAK_VERSION, PEATCLOAK_LAYOUT, PEATCLOAK_FLOATS and PEATCLOAK_NUMBERS of the library that is linked.
@@ -167,7 +184,10 @@ uint32_t peatcloak_queries(const float *floats, size_t floats_len, const uint32_
 
 /* Makes a table. Lists are of any length, given with their true one. amounts (PEATCLOAK_AMOUNTS) has its places under
  * enum peatcloak_amount, given (PEATCLOAK_GIVEN) under enum peatcloak_given. Round data, where given, is what stands at
- * the round's places of floats and numbers before the call; every one of the numbers must then be in its range. */
+ * the round's places of floats and numbers before the call; every one of the numbers must then be in its range. The key
+ * is what stands under PEATCLOAK_GIVEN_KEY_CODE, _YEAR and _HAND where PEATCLOAK_GIVEN_KEY is 1, and none where it is 0,
+ * whatever the numbers hold before the call: the next hand may be built over the last. 19 for year 0 beside a code or a
+ * hand, after every other refusal. */
 uint32_t peatcloak_build(float *floats, size_t floats_len, uint32_t *numbers, size_t numbers_len, const float *stacks,
                          size_t stacks_len, const float *player_bet, size_t player_bet_len, const uint8_t *board,
                          size_t board_len, const float *amounts, size_t amounts_len, const uint32_t *given,
@@ -181,6 +201,11 @@ uint32_t peatcloak_settle(float *floats, size_t floats_len, uint32_t *numbers, s
 /* What document 01's script prints from its start, as many whole lines as out is sure to hold (72 bytes for each);
  * answers the bytes written. */
 size_t peatcloak_play(const uint8_t *script, size_t script_len, uint8_t *out, size_t out_len);
+
+/* The table that stands at a script's end, laid as a build lays one, with the key that it carries. 19 where a list is too
+ * short, then 26 for a script of more than 65,536 bytes, then 25 where no table stands at its end. */
+uint32_t peatcloak_play_table(float *floats, size_t floats_len, uint32_t *numbers, size_t numbers_len,
+                              const uint8_t *script, size_t script_len);
 
 /* ---- Sets of seats and round data alone */
 

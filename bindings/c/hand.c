@@ -1,5 +1,5 @@
-/* A hand between two seats: is it this library, build, post the blinds, a bet refused, a raise, a fold, the pot paid
- * out. */
+/* A hand between two seats: is it this library, build with the key of the hand, post the blinds, a bet refused, a raise,
+ * a fold, the pot paid out; and which hand it was. */
 #include <stdio.h>
 #include <string.h>
 
@@ -28,7 +28,9 @@ int main(void) {
     const float stacks[] = {100, 100};
     const float amounts[PEATCLOAK_AMOUNTS] = {[PEATCLOAK_AMOUNT_BIG_BLIND] = 10, [PEATCLOAK_AMOUNT_SMALL_BLIND] = 5};
     const uint32_t given[PEATCLOAK_GIVEN] = {
-        [PEATCLOAK_GIVEN_STACKS] = 1, [PEATCLOAK_GIVEN_BIG_BLIND] = 1, [PEATCLOAK_GIVEN_SMALL_BLIND] = 1};
+        [PEATCLOAK_GIVEN_STACKS] = 1,        [PEATCLOAK_GIVEN_BIG_BLIND] = 1, [PEATCLOAK_GIVEN_SMALL_BLIND] = 1,
+        [PEATCLOAK_GIVEN_KEY] = 1,           [PEATCLOAK_GIVEN_KEY_CODE] = 3,  [PEATCLOAK_GIVEN_KEY_YEAR] = 2026,
+        [PEATCLOAK_GIVEN_KEY_HAND] = 7};
     const uint8_t no_cards[1] = {0};
     const uint16_t ranks[PEATCLOAK_SEATS] = {7, 3};
     int32_t rewards[PEATCLOAK_SEATS];
@@ -51,5 +53,7 @@ int main(void) {
     show("complete", peatcloak_complete(TABLE));
     show("settle", peatcloak_settle(TABLE, ranks, PEATCLOAK_SEATS, rewards, PEATCLOAK_SEATS));
     printf("rewards %d and %d\n", (int)rewards[0], (int)rewards[1]);
+    printf("table %u, year %u, hand %u\n", (unsigned)numbers[PEATCLOAK_KEY_CODE],
+           (unsigned)numbers[PEATCLOAK_KEY_YEAR], (unsigned)numbers[PEATCLOAK_KEY_HAND]);
     return 0;
 }

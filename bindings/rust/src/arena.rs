@@ -5,6 +5,7 @@ pub mod errors;
 pub mod game_state;
 
 mod builder;
+mod hand_key;
 mod round;
 mod round_data;
 

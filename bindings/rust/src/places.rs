@@ -3,14 +3,14 @@
 
 #![allow(missing_docs, reason = "a place is named after what stands there")]
 
-/// The library's version: 20100 is 2.1.0. The layout's goes up when a place moves or is added.
-pub const VERSION: u32 = 20100;
-pub const LAYOUT: u32 = 1;
+/// The library's version: 20200 is 2.2.0. The layout's goes up when a place moves or is added.
+pub const VERSION: u32 = 20200;
+pub const LAYOUT: u32 = 2;
 
 /// How many places each list has.
-pub const NUMBERS: usize = 24;
+pub const NUMBERS: usize = 32;
 pub const FLOATS: usize = 88;
-pub const GIVEN: usize = 16;
+pub const GIVEN: usize = 24;
 pub const AMOUNTS: usize = 3;
 
 /// Places of the numbers. A set of seats is the number of its bits: seat 0 is 1, seat 1 is 2, seat
@@ -41,8 +41,16 @@ pub mod number {
     pub const BOARD: usize = 18;
     /// Answer: seats that the walk of the last accepted step passed to
     pub const PASSED: usize = 23;
-    /// From here on stands what the Rust's record lacks: nothing yet.
+    /// From here on stands what the Rust's record lacks: the key of the hand, zeros where it has
+    /// none.
     pub const ADDED: usize = 24;
+    /// Of the table, below 65536
+    pub const KEY_CODE: usize = 24;
+    /// Below 65536; 0 means no key
+    pub const KEY_YEAR: usize = 25;
+    pub const KEY_HAND: usize = 26;
+    /// From here on no call reads or writes anything. A host keeps 0 there, for later versions.
+    pub const FREE: usize = 27;
 }
 
 /// Places of the floats. A list has 16 of them, one for each seat.
@@ -94,6 +102,15 @@ pub mod given {
     pub const PLAYER_BET: usize = 14;
     /// What stands at the round's places of floats and numbers before the call
     pub const ROUND_DATA: usize = 15;
+    /// 0: the table has no key
+    pub const KEY: usize = 16;
+    /// Below 65536
+    pub const KEY_CODE: usize = 17;
+    /// Below 65536
+    pub const KEY_YEAR: usize = 18;
+    pub const KEY_HAND: usize = 19;
+    /// From here on nothing is read. A host keeps 0 there, for later versions.
+    pub const FREE: usize = 20;
 }
 
 /// Places of its amounts.

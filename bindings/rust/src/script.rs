@@ -1,7 +1,10 @@
 //! Document 01's script, played.
 
+use crate::arena::GameState;
+use crate::arena::errors::ScriptError;
 use crate::library;
 use crate::sys;
+use crate::words::Words;
 
 /// The boundary asks for so many bytes for each line.
 const LINE: usize = 72;
@@ -16,4 +19,23 @@ pub fn play(script: &[u8]) -> Vec<u8> {
         unsafe { sys::peatcloak_play(script.as_ptr(), script.len(), out.as_mut_ptr(), out.len()) };
     out.truncate(written);
     out
+}
+
+/// The table that a script leads to, with its key. `BadLine` where none stands at its end.
+pub fn play_table(script: &[u8]) -> Result<GameState, ScriptError> {
+    library::check();
+    let mut words = Words::ZEROS;
+    let (floats, numbers) = (&mut words.floats, &mut words.numbers);
+    // SAFETY: all are there, are this long and do not overlap.
+    let refused = unsafe {
+        sys::peatcloak_play_table(
+            floats.as_mut_ptr(),
+            floats.len(),
+            numbers.as_mut_ptr(),
+            numbers.len(),
+            script.as_ptr(),
+            script.len(),
+        )
+    };
+    if refused == 0 { Ok(GameState { words }) } else { Err(ScriptError::of(refused)) }
 }

@@ -102,6 +102,15 @@ unsafe extern "C" {
         out: *mut u8,
         out_len: usize,
     ) -> usize;
+    /// The table that a script leads to; 26 where it is too long, 25 where no table stands at its end.
+    pub fn peatcloak_play_table(
+        floats: *mut f32,
+        floats_len: usize,
+        numbers: *mut u32,
+        numbers_len: usize,
+        script: *const u8,
+        script_len: usize,
+    ) -> u32;
 
     /// The first seats, and 65536 times the refusal number.
     pub safe fn peatcloak_seats_new(players: u32) -> u32;

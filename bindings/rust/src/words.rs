@@ -5,7 +5,8 @@ use crate::places::{FLOATS, NUMBERS, float, number};
 /// A table has at most so many seats.
 pub const MAX_PLAYERS: usize = 16;
 
-/// What a step gives beside the table is not a part of it: two tables are equal without it.
+/// What a step gives beside the table is not a part of it, nor are the words that no call reads: two tables are equal
+/// without them.
 #[derive(Clone, Debug)]
 pub struct Words {
     pub floats: [f32; FLOATS],
@@ -35,6 +36,7 @@ impl PartialEq for Words {
             let mut words = words.clone();
             words.floats[float::PAID] = 0.0;
             words.numbers[number::PASSED] = 0;
+            words.numbers[number::FREE..].fill(0);
             (words.floats, words.numbers)
         };
         own(self) == own(other)

@@ -6,9 +6,10 @@ mod words;
 
 use peatcloak::arena::GameStateBuilder;
 use peatcloak::places::number::{
-    BB_POSTED, BOARD, BOARD_LENGTH, CAP, DEALER_IDX, FORCED_BET_COUNT, HAS_CAP, NEEDS_ACTION,
-    NUM_PLAYERS, PLAYER_ACTIVE, PLAYER_ALL_IN, ROUND, ROUND_BEFORE, ROUND_LENGTH, SB_POSTED,
-    STARTING_PLAYER_ACTIVE, TO_ACT_IDX, TOTAL_BET_COUNT, TOTAL_RAISE_COUNT,
+    BB_POSTED, BOARD, BOARD_LENGTH, CAP, DEALER_IDX, FORCED_BET_COUNT, HAS_CAP, KEY_CODE, KEY_HAND,
+    KEY_YEAR, NEEDS_ACTION, NUM_PLAYERS, PLAYER_ACTIVE, PLAYER_ALL_IN, ROUND, ROUND_BEFORE,
+    ROUND_LENGTH, SB_POSTED, STARTING_PLAYER_ACTIVE, TO_ACT_IDX, TOTAL_BET_COUNT,
+    TOTAL_RAISE_COUNT,
 };
 use peatcloak::places::{FLOATS, NUMBERS};
 use peatcloak::sys;
@@ -51,6 +52,7 @@ fn a_word_out_of_range_is_19() {
     let cards = [BOARD, BOARD + 1, BOARD + 2, BOARD + 3, BOARD + 4];
     let most = [ROUND, ROUND_BEFORE].map(|place| (place, 11)).into_iter();
     let most = most.chain(sets.map(|place| (place, 65_535)));
+    let most = most.chain([KEY_CODE, KEY_YEAR].map(|place| (place, 65_535)));
     let most = most.chain([BB_POSTED, SB_POSTED, HAS_CAP].map(|place| (place, 1)));
     let most = most.chain(counters.map(|place| (place, 255)));
     let most = most.chain(cards.map(|place| (place, 255)));
@@ -63,9 +65,9 @@ fn a_word_out_of_range_is_19() {
     }
 }
 
-/// Changes after which the table is not sound, by its number of seats, its round's list, a seat, its board or a set.
-/// Each word is in range: seats, lengths and the number of seats are numbers of any size.
-const UNSOUND: [&[(usize, u32)]; 28] = [
+/// Changes after which the table is not sound, by its number of seats, its round's list, a seat, its board, a set or its
+/// key. Each word is in range: seats, lengths, the number of seats and a hand are numbers of any size.
+const UNSOUND: [&[(usize, u32)]; 32] = [
     &[(NUM_PLAYERS, 0)],
     &[(NUM_PLAYERS, 1)],
     &[(NUM_PLAYERS, 3)],
@@ -106,6 +108,10 @@ const UNSOUND: [&[(usize, u32)]; 28] = [
     &[(PLAYER_ALL_IN, 0x8000)],
     &[(STARTING_PLAYER_ACTIVE, 0x8003)],
     &[(NEEDS_ACTION, 0x8003)],
+    &[(KEY_CODE, 1)],
+    &[(KEY_HAND, 1)],
+    &[(KEY_HAND, u32::MAX)],
+    &[(KEY_CODE, 65_535), (KEY_HAND, u32::MAX)],
 ];
 
 #[test]
@@ -136,6 +142,9 @@ fn a_list_that_is_too_short_is_19() {
             assert_eq!(sys::peatcloak_advance_round(f, floats_len, n, numbers_len), 19);
             assert_eq!(sys::peatcloak_complete(f, floats_len, n, numbers_len), 19);
             assert_eq!(sys::peatcloak_award(f, floats_len, n, numbers_len, 0, 1.0), 19);
+            let script = b"t 0 10 5 0 9 9";
+            let (s, s_len) = (script.as_ptr(), script.len());
+            assert_eq!(sys::peatcloak_play_table(f, floats_len, n, numbers_len, s, s_len), 19);
             assert_eq!(sys::peatcloak_round_new(f, floats_len, n, numbers_len, 2, 1.0, 3, 0), 19);
             assert_eq!(sys::peatcloak_round_advance_action(f, floats_len, n, numbers_len), 19);
             assert_eq!(sys::peatcloak_round_do_bet(f, floats_len, n, numbers_len, 1.0, 0), 19);

@@ -1,4 +1,5 @@
 pub mod Building
+pub mod LawsKey
 pub mod LawsPlaces
 pub mod LawsRows
 pub mod Promises

@@ -48,8 +48,8 @@ round-data κs a x y = only same
 pub build : OneResult crate.GameStateBuilder.build.ended crate.GameStateBuilder.build.Reads.Learnt
 build κs a x y = only same
 
-pub added : OneResult crate.GameStateBuilder.added.ended crate.GameStateBuilder.added.Reads.Learnt
-added κs a x y = only same
+pub hand-key : OneResult crate.GameStateBuilder.hand_key.ended crate.GameStateBuilder.hand_key.Reads.Learnt
+hand-key κs a x y = only same
 
 pub verdict : OneResult crate.GameStateBuilder.verdict.ended crate.GameStateBuilder.verdict.Reads.Learnt
 verdict κs a x y = only same

@@ -1,12 +1,12 @@
--- The builder's order as one table: each refusal by itself, each pair of neighbours, where the first of the two answers, and what accepted builds hold. It
--- is closed by computing. Assumes nothing.
+-- The builder's order as one table: each refusal by itself, each before a bad key, each pair of neighbours, where the first of the two answers, and what
+-- accepted builds hold. It is closed by computing. Assumes nothing.
 use Prim.Native.Nat.{ℕ}
 use mathlib.Core.Path.{_≡_, refl}
-use mathlib.Core.Bool.{Bool, true, false, not}
-use mathlib.Core.List.{List, [], _∷_, _++_}
+use mathlib.Core.Bool.{Bool, true, false}
+use mathlib.Core.List.{List, [], _∷_, _++_, map}
 use lib.Dec.{eqb}
 use lib.IntN.{pos}
-use lib.ListN.{getD, replicate}
+use lib.ListN.{replicate}
 use lib.Ieee.{Float, nan, inf, fin, binary32, ofInt, eq, lt, le, add, div, isNan}
 use Rattle.commons.specs.Filled.{filled}
 use Rattle.commons.specs.Tests.{allOf}
@@ -15,15 +15,16 @@ use Rattle.floats.specs.Helpers.{zerof}
 use Rattle.amounts.specs.Amounts.{sumOf, aboveOf, anyInvalid}
 use Rattle.seats.specs.Bits.{upTo, with, seatsWhere}
 use Rattle.seats.specs.Set.{ofBits}
+use Rattle.keys.specs.declared.HandKey.{HandKey}
+use Rattle.keys.specs.Keys.{keyOf, noKey, isSame}
 use Rattle.rounds.specs.declared.Round.the-variants.{Flop}
 use Rattle.rounds.specs.Steps.{newData}
 use Rattle.table.specs.Added.{goodAdded}
-use Rattle.table.specs.Rounds.{isRound}
 use Rattle.table.specs.Sound.{soundFrame, boardOk, cardsOk}
 use Rattle.builder.specs.declared.GameStateBuilder.{GameStateBuilder}
 use Rattle.builder.specs.Build.{smallBlindOf, dataFor, builtOf, buildOf}
 use Rattle.builder.specs.Cards.{seenTo, cardRows}
-use Rattle.builder.specs.Setters.{nothing, noAmount, noAmounts, theAmount, theAmounts, theNumber, withStacks, withBigBlind, withSmallBlind, withAnte, withDealer, withRound, withBoard, withHands, withBets, withData}
+use Rattle.builder.specs.Setters.{nothing, noAmount, noAmounts, theAmount, theAmounts, theNumber, withStacks, withBigBlind, withSmallBlind, withAnte, withDealer, withRound, withBoard, withHands, withBets, withData, withKey}
 
 chips : ℕ → Float
 chips n = ofInt binary32 (pos n)
@@ -76,29 +77,39 @@ one-bet b = withBets b (theAmounts (chips 5 ∷ []))
 bad-data : GameStateBuilder → GameStateBuilder
 bad-data b = withData b (newData 2 (chips 10) (ofBits 3) 2)
 
+-- a code, and no year
+bad-key : GameStateBuilder → GameStateBuilder
+bad-key b = withKey b (keyOf 5 0 0)
+
 -- ---- the numbers
 gives : ℕ → GameStateBuilder → Bool
 gives n b = eqb (verdictNumber (buildOf b .answer)) n
 
-pub alone : List Bool
-alone =
-    gives 0 good
-    ∷ gives 1 (no-stacks good)
-    ∷ gives 2 (no-blind good)
-    ∷ gives 3 (one-seat good)
-    ∷ gives 5 (zero-blind good)
-    ∷ gives 6 (bad-small good)
-    ∷ gives 7 (bad-ante good)
-    ∷ gives 8 (bad-stack good)
-    ∷ gives 9 (one-left good)
-    ∷ gives 4 (far-dealer good)
-    ∷ gives 10 (three-hands good)
-    ∷ gives 11 (one-bet good)
-    ∷ gives 12 (withBoard good (1 ∷ 2 ∷ []))
-    ∷ gives 18 (withBoard good (1 ∷ 2 ∷ 52 ∷ []))
-    ∷ gives 13 (withBoard good (7 ∷ 1 ∷ 7 ∷ []))
-    ∷ gives 19 (bad-data good)
+-- each number but 19 with its fault
+faults : List (ℕ × GameStateBuilder)
+faults =
+    (1, no-stacks good)
+    ∷ (2, no-blind good)
+    ∷ (3, one-seat good)
+    ∷ (5, zero-blind good)
+    ∷ (6, bad-small good)
+    ∷ (7, bad-ante good)
+    ∷ (8, bad-stack good)
+    ∷ (9, one-left good)
+    ∷ (4, far-dealer good)
+    ∷ (10, three-hands good)
+    ∷ (11, one-bet good)
+    ∷ (12, withBoard good (1 ∷ 2 ∷ []))
+    ∷ (18, withBoard good (1 ∷ 2 ∷ 52 ∷ []))
+    ∷ (13, withBoard good (7 ∷ 1 ∷ 7 ∷ []))
     ∷ []
+
+pub alone : List Bool
+alone = gives 0 good ∷ gives 19 (bad-data good) ∷ gives 19 (bad-key good) ∷ map (λ f. gives (f .0) (f .1)) faults
+
+-- the key is looked at after all of them
+pub before-key : List Bool
+before-key = map (λ f. gives (f .0) (bad-key (f .1))) faults
 
 pub neighbours : List Bool
 neighbours =
@@ -153,6 +164,23 @@ accepted =
     ∷ holds (withBets (stacks good (zerof ∷ chips 1 ∷ chips 1 ∷ [])) (theAmounts (chips 10 ∷ zerof ∷ zerof ∷ []))) 5 10 6 0 7
     ∷ []
 
-pub right : allOf (alone ++ (neighbours ++ accepted)) ≡ true
-unfolding alone neighbours accepted holds gives good stacks less chips no-stacks no-blind one-seat zero-blind bad-small bad-ante bad-stack one-left far-dealer three-hands one-bet bad-data buildOf builtOf smallBlindOf dataFor cardRows seenTo soundFrame boardOk cardsOk goodAdded upTo with seatsWhere filled sumOf aboveOf anyInvalid ofInt eq lt le add div isNan
+-- ---- which key the table carries: the one that is given, the last where two are, none by default and of a refused build
+carries : GameStateBuilder → HandKey → Bool
+carries b k = isSame (buildOf b .table .added .key) k
+
+pub keyed : List Bool
+keyed =
+    carries good noKey
+    ∷ carries (withKey good (keyOf 3 2026 7)) (keyOf 3 2026 7)
+    ∷ carries (withKey good (keyOf 65535 65535 4294967295)) (keyOf 65535 65535 4294967295)
+    ∷ carries (withKey (withKey good (keyOf 3 2026 7)) (keyOf 3 2027 7)) (keyOf 3 2027 7)
+    ∷ gives 0 (withKey (bad-key good) noKey)
+    ∷ carries (withKey (bad-key good) noKey) noKey
+    ∷ carries (withKey (one-seat good) (keyOf 3 2026 7)) noKey
+    ∷ gives 19 (withKey good (keyOf 0 0 7))
+    ∷ gives 0 (withKey good (keyOf 0 1 0))
+    ∷ []
+
+pub right : allOf (alone ++ (before-key ++ (neighbours ++ (accepted ++ keyed)))) ≡ true
+unfolding alone before-key faults neighbours accepted keyed carries bad-key holds gives good stacks less chips no-stacks no-blind one-seat zero-blind bad-small bad-ante bad-stack one-left far-dealer three-hands one-bet bad-data buildOf builtOf smallBlindOf dataFor cardRows seenTo soundFrame boardOk cardsOk goodAdded upTo with seatsWhere filled sumOf aboveOf anyInvalid ofInt eq lt le add div isNan
 right = refl

@@ -10,8 +10,9 @@ use Rattle.rounds.specs.declared.Round.{Round}
 use Rattle.rounds.specs.declared.Round.the-variants.{Starting}
 use Rattle.rounds.specs.declared.RoundData.{RoundData}
 use Rattle.rounds.specs.Steps.{noData}
+use Rattle.keys.specs.declared.HandKey.{HandKey}
 use Rattle.table.specs.declared.added.Added.{Added}
-use Rattle.table.specs.Added.{noAdded}
+use Rattle.table.specs.Added.{addedOf, noAdded}
 use Rattle.builder.specs.declared.GivenAmount.{GivenAmount}
 use Rattle.builder.specs.declared.GivenNumber.{GivenNumber}
 use Rattle.builder.specs.declared.GivenCap.{GivenCap}
@@ -102,5 +103,5 @@ module _ (b : GameStateBuilder) where
   abbrev pub withData : RoundData → GameStateBuilder
   withData d = builderOf (b .stacks) (b .«big_blind») (b .«small_blind») (b .ante) (b .«dealer_idx») (b .«max_raises_per_round») (b .round) (b .board) (b .hands) (b .«player_bet») (record { given = true; value = d }) (b .added)
 
-  abbrev pub withAdded : Added → GameStateBuilder
-  withAdded a = builderOf (b .stacks) (b .«big_blind») (b .«small_blind») (b .ante) (b .«dealer_idx») (b .«max_raises_per_round») (b .round) (b .board) (b .hands) (b .«player_bet») (b .«round_data») a
+  abbrev pub withKey : HandKey → GameStateBuilder
+  withKey k = builderOf (b .stacks) (b .«big_blind») (b .«small_blind») (b .ante) (b .«dealer_idx») (b .«max_raises_per_round») (b .round) (b .board) (b .hands) (b .«player_bet») (b .«round_data») (addedOf k)

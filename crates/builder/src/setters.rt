@@ -10,9 +10,9 @@ use crate::GivenData;
 use crate::GivenNumber;
 use crate::GivenRound;
 use crate::checks;
+use keys::HandKey;
 use rounds::Round;
 use rounds::RoundData;
-use table::added::Added;
 
 impl GameStateBuilder {
     pub fn stacks(mut self, stacks: &[f32]) -> GameStateBuilder
@@ -165,10 +165,12 @@ impl GameStateBuilder {
         self
     }
 
-    // What the Rust's record lacks, whole.
-    pub fn added(mut self, added: Added) -> GameStateBuilder
-        ensures { λ r. ⌜ r ≡ Setters.withAdded self added ⌝ }
+    // Which hand it is; what else is added stays.
+    pub fn hand_key(mut self, key: HandKey) -> GameStateBuilder
+        ensures { λ r. ⌜ r ≡ Setters.withKey self key ⌝ }
     {
+        let mut added = self.added;
+        added.key = key;
         self.added = added;
         self
     }

@@ -39,6 +39,12 @@ scripts =
     ∷ ("t 0 0 5 0 1 1 1 1 1 1 1 1 1 1 1 1 1 1 1 1 65536", "1 25 - - - -\n")
     ∷ ("t 9 0 5 0 1 1\nt 9 10 5 0 0 1\nt 9 10 5 0 1 1", "1 5 - - - -\n2 9 - - - -\n3 4 - - - -\n")
     ∷ ("t 1 10 5 0 100 100\nn\nt 0 10 5 0 0 1\nw 1\nw 1 2 3\nq\nx\n", "1 0 0 1 0 0\n2 0 1 0 0 0\n3 9 1 0 0 0\n4 25 1 0 0 0\n5 25 1 0 0 0\n6 25 1 0 0 0\n7 0 11 1 0 0\n")
+    -- `k` needs no table, prints what stands, and is refused for its form alone
+    ∷ ("k 3 2026 7\nk 3 2026\nk 3 2026 7 1\nk 3 2026 65536\nt 0 10 5 0 1 1\nk 3 2026 8", "1 0 - - - -\n2 25 - - - -\n3 25 - - - -\n4 25 - - - -\n5 0 0 0 0 0\n6 0 0 0 0 0\n")
+    -- a bad key is the next table's 19, after 25, 3 and 4; it stands until another takes its place
+    ∷ ("k 5 0 0\nt 0 10 5\nt 0 10 5 0\nt 9 10 5 0 1 1\nt 0 10 5 0 1 1\nt 0 10 5 0 1 1\nk 0 0 0\nt 0 10 5 0 1 1", "1 0 - - - -\n2 25 - - - -\n3 3 - - - -\n4 4 - - - -\n5 19 - - - -\n6 19 - - - -\n7 0 - - - -\n8 0 0 0 0 0\n")
+    -- the table that stands is kept
+    ∷ ("t 1 10 5 0 1 1\nn\nk 0 0 9\nt 0 10 5 0 1 1\nn", "1 0 0 1 0 0\n2 0 1 0 0 0\n3 0 1 0 0 0\n4 19 1 0 0 0\n5 0 2 0 0 0\n")
     ∷ []
 
 -- -0.0 is 0, and 2 ^ 24 is the last that is shown

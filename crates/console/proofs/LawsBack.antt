@@ -16,12 +16,12 @@ use Rattle.settlement.specs.Settlement.{settledOf}
 use Rattle.settlement.proofs.Accepted.{refusal-keeps}
 use Rattle.script.specs.declared.line.Words.{Words}
 use Rattle.script.specs.declared.line.Line.{Line}
-use Rattle.script.specs.declared.line.Line.the-variants.{Table, Advance, Fold, Bet, Forced, Complete, Settle, Bad}
+use Rattle.script.specs.declared.line.Line.the-variants.{Table, Advance, Fold, Bet, Forced, Complete, Settle, Key, Bad}
 use Rattle.script.specs.Line.{meaningOf}
 use Rattle.console.specs.declared.act.State.{State}
 use Rattle.console.specs.declared.act.Act.{Act}
 use Rattle.console.specs.Opening.{chipsOf, openingOf}
-use Rattle.console.specs.Act.{standing, badLine, needing, settled, ranked, opened, done, actOf}
+use Rattle.console.specs.Act.{onTable, acted, badLine, needing, settled, ranked, opened, done, actOf}
 
 -- what stood is left unless the line was accepted
 abbrev pub Kept : State → Act → Type 0
@@ -31,7 +31,7 @@ needing-back : (s : State) (k : ℕ) (t : GameState) → (k ≢ 0 → t ≡ s .t
 unfolding needing
 needing-back s k t b = go (s .stands) refl
   where
-    go : (stands : Bool) → s .stands ≡ stands → Kept s (cond stands (standing k t) (badLine s))
+    go : (stands : Bool) → s .stands ≡ stands → Kept s (cond stands (acted k (onTable t (s .key))) (badLine s))
     go true e h = rw (b h, ← e) refl
     go false e h = refl
 
@@ -47,13 +47,14 @@ ranked-back s count ns =
     (λ h. refl)
 
 done-back : (s : State) (w : Words) (l : Line) → Kept s (done s w l)
-done-back s w Table = opened-back s _ (openingOf (w .count) (w .numbers) .answer)
+done-back s w Table = opened-back s _ (openingOf (s .key) (w .count) (w .numbers) .answer)
 done-back s w Advance = needing-back s _ _ (advance-back (s .table))
 done-back s w Fold = needing-back s _ _ (fold-back (s .table))
 done-back s w (Bet x) = needing-back s _ _ (bet-back (s .table) (chipsOf x) false)
 done-back s w (Forced x) = needing-back s _ _ (bet-back (s .table) (chipsOf x) true)
 done-back s w Complete = needing-back s _ _ (complete-back (s .table))
 done-back s w Settle = ranked-back s (w .count) (w .numbers)
+done-back s w Key = λ h. absurd (h refl)
 done-back s w Bad = λ h. refl
 
 pub refused-keeps : (w : Words) (s : State) → actOf w s .number ≢ 0 → actOf w s .state ≡ s

@@ -19,6 +19,7 @@ use Rattle.refusals.specs.declared.GameStateBuilderError.the-variants.{InvalidP
 use Rattle.refusals.specs.declared.AddedError.the-variants.{BadLine}
 use Rattle.refusals.specs.Rows.{giveIf, judge, answer, verdictNumber}
 use Rattle.refusals.proofs.Rows.{answer-number}
+use Rattle.keys.specs.declared.HandKey.{HandKey}
 use Rattle.builder.specs.declared.BuildStep.{BuildStep}
 use Rattle.builder.specs.Build.{buildRows, builtStep, notBuilt, buildOf}
 use Rattle.script.specs.declared.line.Words.{Words}
@@ -55,26 +56,26 @@ pub counted : (count : ℕ) → (leb 6 count && leb count 20) ≡ true → (6 �
 counted count e = let b = and-both (leb 6 count) (leb count 20) e in (leb-true _ _ (b .0), leb-true _ _ (b .1))
 
 -- ---- the rows of a `t` line
-module _ (count : ℕ) (ns : List ℕ) where
+module _ (key : HandKey) (count : ℕ) (ns : List ℕ) where
   -- of 2 to 16 stacks it is the builder's
-  pub opens : (leb (4 + 2) count && leb count (4 + 16)) ≡ true → buildOf (told count ns) ≡ openingOf count ns
+  pub opens : (leb (4 + 2) count && leb count (4 + 16)) ≡ true → buildOf (told key count ns) ≡ openingOf key count ns
   unfolding openingOf buildOf
-  opens e = λ i. answer (builtStep (told count ns)) notBuilt (giveIf (not (sym e i)) (Build InvalidPlayerCount) (judge (buildRows (told count ns))))
+  opens e = λ i. answer (builtStep (told key count ns)) notBuilt (giveIf (not (sym e i)) (Build InvalidPlayerCount) (judge (buildRows (told key count ns))))
 
   -- of others it is 3
-  pub opens-not : (leb (4 + 2) count && leb count (4 + 16)) ≡ false → notBuilt (Build InvalidPlayerCount) ≡ openingOf count ns
+  pub opens-not : (leb (4 + 2) count && leb count (4 + 16)) ≡ false → notBuilt (Build InvalidPlayerCount) ≡ openingOf key count ns
   unfolding openingOf
-  opens-not e = λ i. answer (builtStep (told count ns)) notBuilt (giveIf (not (sym e i)) (Build InvalidPlayerCount) (judge (buildRows (told count ns))))
+  opens-not e = λ i. answer (builtStep (told key count ns)) notBuilt (giveIf (not (sym e i)) (Build InvalidPlayerCount) (judge (buildRows (told key count ns))))
 
   -- its number is that of the first row that holds, 25 with fewer than four numbers
-  pub opening-order : verdictNumber (openingOf count ns .answer) ≡ verdictNumber (judge (openRows count ns))
+  pub opening-order : verdictNumber (openingOf key count ns .answer) ≡ verdictNumber (judge (openRows key count ns))
   unfolding openingOf
-  opening-order = answer-number (builtStep (told count ns)) notBuilt (λ (s : BuildStep). verdictNumber (s .answer)) refl (λ r. refl) (judge (openRows count ns))
+  opening-order = answer-number (builtStep (told key count ns)) notBuilt (λ (s : BuildStep). verdictNumber (s .answer)) refl (λ r. refl) (judge (openRows key count ns))
 
-pub table-order : (w : Words) (s : State) → w .letter ≡ code "t" → actOf w s .number ≡ verdictNumber (judge (tableRows (w .count) (w .numbers)))
+pub table-order : (w : Words) (s : State) → w .letter ≡ code "t" → actOf w s .number ≡ verdictNumber (judge (tableRows (s .key) (w .count) (w .numbers)))
 unfolding actOf asked
 table-order w s e = (λ i. done s w (asked (e i) (w .count) (getD (w .numbers) 0 0)) .number) ∙ by-count (leb 4 (w .count))
   where
-    by-count : (b : Bool) → done s w (onlyIf b Table) .number ≡ verdictNumber (giveIf (not b) (Added BadLine) (judge (openRows (w .count) (w .numbers))))
-    by-count true = opening-order (w .count) (w .numbers)
+    by-count : (b : Bool) → done s w (onlyIf b Table) .number ≡ verdictNumber (giveIf (not b) (Added BadLine) (judge (openRows (s .key) (w .count) (w .numbers))))
+    by-count true = opening-order (s .key) (w .count) (w .numbers)
     by-count false = refl

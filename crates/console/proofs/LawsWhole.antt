@@ -1,7 +1,7 @@
 -- A script part by part: whatever the buffers are, all that is printed is what the script prints (`printed-whole`), and in buffers
 -- of 72 places or more the parts come to the script's end (`script-moves`). Assumes nothing.
 use mathlib.Core.Path.{_≡_, refl, sym, ap, _∙_}
-use mathlib.Core.Bool.{Bool, true, false, cond, _||_}
+use mathlib.Core.Bool.{true, false, cond, _||_}
 use mathlib.Core.List.{List, [], _∷_, _++_, append-assoc, append-nil}
 use mathlib.Core.Logic.{⊎-elim, _⊎_, inl, inr}
 use Prim.Native.Nat.{ℕ, _+_, _-_, _≤_, _<_}
@@ -33,7 +33,7 @@ unfolding playLines
 none-left s at c h = rw (no-lines s at h)
 
 -- the lines from a place on, the first of them l: the others are those from its end on
-rest-lines : (s : List ℕ) (at : ℕ) (l : List ℕ) (ls : List (List ℕ)) → l ∷ ls ≡ lines (drop at s) → ls ≡ lines (drop (at + length l + 1) s)
+pub rest-lines : (s : List ℕ) (at : ℕ) (l : List ℕ) (ls : List (List ℕ)) → l ∷ ls ≡ lines (drop at s) → ls ≡ lines (drop (at + length l + 1) s)
 rest-lines s at l ls e = go (either (ltb at (length s)))
   where
     go : (ltb at (length s) ≡ true) ⊎ (ltb at (length s) ≡ false) → ls ≡ lines (drop (at + length l + 1) s)

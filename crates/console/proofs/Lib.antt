@@ -2,8 +2,11 @@ pub mod LawsOpening
 pub mod LawsShown
 pub mod LawsAct
 pub mod LawsBack
+pub mod LawsEnding
+pub mod LawsKey
 pub mod LawsParts
 pub mod LawsLong
+pub mod LawsStanding
 pub mod LawsWhole
 pub mod Sample
 pub mod Examples

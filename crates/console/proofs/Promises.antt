@@ -7,6 +7,10 @@ use Rattle.console.proofs as crate
 pub obey : OneResult crate.act.obey.ended crate.act.obey.Reads.Learnt
 obey κs a x y = only same
 
+-- ---- src/ending.rt
+pub end-of : OneResult crate.ending.end_of.ended crate.ending.end_of.Reads.Learnt
+end-of κs a x y = only same
+
 -- ---- src/play.rt
 pub start : OneResult crate.play.start.ended crate.play.start.Reads.Learnt
 start κs a x y = only same

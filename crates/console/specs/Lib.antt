@@ -3,3 +3,4 @@ pub mod Act
 pub mod Shown
 pub mod Play
 pub mod Parts
+pub mod Ending

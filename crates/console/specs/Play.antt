@@ -6,6 +6,7 @@ use lib.Dec.{ltb, leb}
 use lib.ListN.{length}
 use Rattle.refusals.specs.declared.AddedError.the-variants.{ScriptTooLong}
 use Rattle.refusals.specs.Number.{addedNumber}
+use Rattle.keys.specs.Keys.{noKey}
 use Rattle.table.specs.With.{noTable}
 use Rattle.script.specs.declared.line.Words.{Words}
 use Rattle.script.specs.declared.print.View.the-variants.{NoTable}
@@ -19,9 +20,9 @@ use Rattle.console.specs.declared.play.Turn.{Turn}
 use Rattle.console.specs.Act.{actOf}
 use Rattle.console.specs.Shown.{viewOf}
 
--- R12.1: line 1, no table
+-- R12.1: line 1, no table, no key
 unfoldable pub atStart : Console
-atStart = record { «line_no» = 1; state = record { stands = false; table = noTable } }
+atStart = record { «line_no» = 1; state = record { stands = false; table = noTable; key = noKey } }
 
 -- R12.9: lines are counted as far as the number goes
 abbrev pub countUp : ℕ → ℕ

@@ -1,8 +1,9 @@
 // What a line does to what stands. How the line came, read from a script or otherwise, is no matter here.
 ghost use mathlib.Core.Path.{_≡_};
-ghost use Rattle.console.specs.Act.{badLine, needing, stepped, wagered, ranked, opened, actOf};
+ghost use Rattle.console.specs.Act.{badLine, needing, stepped, wagered, ranked, opened, keyed, actOf};
 use crate::opening;
 use builder::BuildStep;
+use keys::HandKey;
 use refusals::AddedError;
 use refusals::Verdict;
 use script::line;
@@ -12,10 +13,11 @@ use table::BetStep;
 use table::GameState;
 use table::TableStep;
 
-// What stands between two lines: no table, or a table.
+// What stands between two lines: no table, or a table; and the key that the next table takes.
 pub struct State {
     pub stands: bool,
     pub table: GameState,
+    pub key: HandKey,
 }
 
 // What a line gives: 0 or the refusal's number, and what stands after it.
@@ -38,12 +40,14 @@ fn bad_line(s: State) -> Act
 fn needing(s: State, number: u8, table: GameState) -> Act
     ensures { λ r. ⌜ r ≡ needing s number table ⌝ }
 {
+    let key = s.key;
     if s.stands {
         return Act {
             number,
             state: State {
                 stands: true,
                 table,
+                key,
             },
         };
     }
@@ -80,7 +84,7 @@ fn ranked(s: State, count: usize, numbers: [u16; 20]) -> Act
     bad_line(s)
 }
 
-// A new table, or what stood where it is refused.
+// A new table, which uses the key up; or what stood where it is refused.
 fn opened(s: State, step: BuildStep) -> Act
     ensures { λ r. ⌜ r ≡ opened s step ⌝ }
 {
@@ -92,6 +96,7 @@ fn opened(s: State, step: BuildStep) -> Act
             state: State {
                 stands: true,
                 table,
+                key: keys::NONE,
             },
         },
         Verdict::Refused(r) => Act {
@@ -101,20 +106,48 @@ fn opened(s: State, step: BuildStep) -> Act
     }
 }
 
+fn wide(n: u16) -> u32
+    ensures { λ r. ⌜ r ≡ n ⌝ }
+{
+    n as u32
+}
+
+// The key for the next table, which asks whether it is good.
+fn keyed(s: State, numbers: [u16; 20]) -> Act
+    ensures { λ r. ⌜ r ≡ keyed s numbers ⌝ }
+{
+    let table = s.table;
+    let key = HandKey {
+        code: numbers[0],
+        year: numbers[1],
+        hand: wide(numbers[2]),
+    };
+    Act {
+        number: 0,
+        state: State {
+            stands: s.stands,
+            table,
+            key,
+        },
+    }
+}
+
 // A line played. Where no table stands, what a step gives of it is dropped.
 pub fn obey(w: Words, s: State) -> Act
     ensures { λ r. ⌜ r ≡ actOf w s ⌝ }
 {
     let t = s.table;
+    let key = s.key;
     let numbers = w.numbers;
     match line::meaning(w) {
-        Line::Table => opened(s, opening::open_table(w.count, numbers)),
+        Line::Table => opened(s, opening::open_table(key, w.count, numbers)),
         Line::Advance => stepped(s, t.advance_round()),
         Line::Fold => stepped(s, t.fold()),
         Line::Bet(x) => wagered(s, t.do_bet(x as f32, false)),
         Line::Forced(x) => wagered(s, t.do_bet(x as f32, true)),
         Line::Complete => stepped(s, t.complete()),
         Line::Settle => ranked(s, w.count, numbers),
+        Line::Key => keyed(s, numbers),
         Line::Bad => bad_line(s),
     }
 }

@@ -1,5 +1,6 @@
 // Document 01, "Script program": a script played on a table, line by line, and what is printed for it.
 pub mod act;
+pub mod ending;
 mod opening;
 pub mod play;
 pub mod shown;

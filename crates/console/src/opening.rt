@@ -4,6 +4,7 @@ ghost use lib.ListN.{take};
 ghost use Rattle.console.specs.Opening.{amountsFrom, openingOf};
 use builder::BuildStep;
 use builder::GameStateBuilder;
+use keys::HandKey;
 use refusals::GameStateBuilderError;
 use refusals::Refusal;
 use refusals::Verdict;
@@ -30,14 +31,15 @@ pub fn ranks_of(numbers: [u16; 20]) -> [u16; 16]
     list
 }
 
-// 3 unless there are 2 to 16 stacks, then what the builder gives.
-pub fn open_table(count: usize, numbers: [u16; 20]) -> BuildStep
-    ensures { λ r. ⌜ r ≡ openingOf count numbers ⌝ }
+// 3 unless there are 2 to 16 stacks, then what the builder gives of these and the key.
+pub fn open_table(key: HandKey, count: usize, numbers: [u16; 20]) -> BuildStep
+    ensures { λ r. ⌜ r ≡ openingOf key count numbers ⌝ }
 {
     if (6 <= count) & (count <= 20) {
         let n = count - 4;
         let stacks = amounts_from(numbers);
         return GameStateBuilder::new()
+            .hand_key(key)
             .dealer_idx(numbers[0] as usize)
             .big_blind(numbers[1] as f32)
             .small_blind(numbers[2] as f32)

@@ -34,7 +34,7 @@ pub struct Played {
     pub len: usize,
 }
 
-// Line 1, no table.
+// Line 1, no table, no key.
 pub fn start() -> Console
     ensures { λ r. ⌜ r ≡ atStart ⌝ }
 {
@@ -43,6 +43,7 @@ pub fn start() -> Console
         state: State {
             stands: false,
             table: GameState::none(),
+            key: keys::NONE,
         },
     }
 }

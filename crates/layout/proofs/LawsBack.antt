@@ -19,7 +19,7 @@ use Rattle.table.specs.declared.GameState.{GameState}
 use Rattle.table.specs.Sound.{cardsOk, boardOk, soundOf}
 use Rattle.table.specs.With.{tableOf}
 use Rattle.table.proofs.Sound.{Sound, sound}
-use Rattle.layout.specs.Added.{laidAdded, addedAt}
+use Rattle.layout.specs.Added.{addedAt}
 use Rattle.layout.specs.Fits.{Fits}
 use Rattle.layout.specs.Laid.{numbersOf, laidNumbers, amountsOf, laidList, laidFloats, floatsLaid, numbersLaid, ReadsBack, dataFloats, dataNumbers, floatsDataLaid, numbersDataLaid}
 use Rattle.layout.specs.Places.{NUM-PLAYERS, DEALER-IDX, ROUND, ROUND-BEFORE, PLAYER-ACTIVE, PLAYER-ALL-IN, STARTING-PLAYER-ACTIVE, NEEDS-ACTION, TO-ACT-IDX, ROUND-LENGTH, TOTAL-BET-COUNT, TOTAL-RAISE-COUNT, FORCED-BET-COUNT, BB-POSTED, SB-POSTED, HAS-CAP, CAP, BOARD-LENGTH, BOARD, ADDED, NUMBERS, TOTAL-POT, BIG-BLIND, SMALL-BLIND, ANTE, ROUND-BET, MIN-RAISE, STACKS, STARTING-STACKS, HAND-BETS, WINNINGS, ROUND-BETS, FLOATS}
@@ -53,7 +53,7 @@ module _ (t : GameState) (paid : Float) (passed : ℕ) (fs : List Float) (ns : L
 
   word-back : (j : ℕ) → j < ADDED → wordAt ns′ j ≡ getD (numbersOf t passed) j 0
   word-back j h =
-      added-apart (t .added) (copied 0 0 ns 0 (numbersOf t passed) ADDED) j h
+      added-apart (t .added) (copied 0 0 ns 0 (numbersOf t passed) ADDED) j (λ l g. omega arith)
       ∙ (λ i. wordAt (copied-front 0 ns (numbersOf t passed) ADDED ADDED (omega arith) i) j)
       ∙ filled-at ns (λ k. getD (numbersOf t passed) k 0) ADDED j 0 h (omega arith)
 

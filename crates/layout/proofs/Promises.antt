@@ -27,9 +27,6 @@ standing-table κs a x y = only same
 pub standing-read-data : OneResult crate.standing.read_data.ended crate.standing.read_data.Reads.Learnt
 standing-read-data κs a x y = only same
 
-pub standing-read-added : OneResult crate.standing.read_added.ended crate.standing.read_added.Reads.Learnt
-standing-read-added κs a x y = only same
-
 -- ---- src/words.rt
 pub words-word-at : OneResult crate.words.word_at.ended crate.words.word_at.Reads.Learnt
 words-word-at κs a x y = only same

@@ -3,10 +3,10 @@ use Prim.Native.Nat.{ℕ}
 
 -- ---- R15.13: the versions
 abbrev pub VERSION : ℕ
-VERSION = 20100
+VERSION = 20200
 
 abbrev pub LAYOUT : ℕ
-LAYOUT = 1
+LAYOUT = 2
 
 -- ---- the numbers
 abbrev pub NUM-PLAYERS : ℕ
@@ -72,8 +72,20 @@ PASSED = 23
 abbrev pub ADDED : ℕ
 ADDED = 24
 
+abbrev pub KEY-CODE : ℕ
+KEY-CODE = 24
+
+abbrev pub KEY-YEAR : ℕ
+KEY-YEAR = 25
+
+abbrev pub KEY-HAND : ℕ
+KEY-HAND = 26
+
+abbrev pub FREE : ℕ
+FREE = 27
+
 abbrev pub NUMBERS : ℕ
-NUMBERS = 24
+NUMBERS = 32
 
 -- ---- the floats
 abbrev pub TOTAL-POT : ℕ
@@ -171,8 +183,23 @@ GIVEN-PLAYER-BET = 14
 abbrev pub GIVEN-ROUND-DATA : ℕ
 GIVEN-ROUND-DATA = 15
 
+abbrev pub GIVEN-KEY : ℕ
+GIVEN-KEY = 16
+
+abbrev pub GIVEN-KEY-CODE : ℕ
+GIVEN-KEY-CODE = 17
+
+abbrev pub GIVEN-KEY-YEAR : ℕ
+GIVEN-KEY-YEAR = 18
+
+abbrev pub GIVEN-KEY-HAND : ℕ
+GIVEN-KEY-HAND = 19
+
+abbrev pub GIVEN-FREE : ℕ
+GIVEN-FREE = 20
+
 abbrev pub GIVEN : ℕ
-GIVEN = 16
+GIVEN = 24
 
 abbrev pub AMOUNT-BIG-BLIND : ℕ
 AMOUNT-BIG-BLIND = 0

@@ -1,6 +1,6 @@
 -- R15.3: the table that stands in a host's two lists, fs and ns. Definitions only.
 use Prim.Native.Nat.{ℕ, _+_}
-use mathlib.Core.Bool.{Bool, true, false, cond, _&&_}
+use mathlib.Core.Bool.{Bool, false, cond, _&&_}
 use mathlib.Core.List.{List, [], _∷_}
 use lib.Dec.{leb, ltb}
 use lib.ListN.{length}
@@ -12,11 +12,9 @@ use Rattle.rounds.specs.Steps.{noData}
 use Rattle.rounds.specs.With.{dataOf}
 use Rattle.table.specs.declared.GameState.{GameState}
 use Rattle.table.specs.declared.soundness.Frame.{Frame}
-use Rattle.table.specs.Added.{noAdded}
 use Rattle.table.specs.Sound.{soundFrame}
 use Rattle.table.specs.With.{tableOf, noTable}
 use Rattle.layout.specs.declared.standing.DataStanding.{DataStanding}
-use Rattle.layout.specs.declared.standing.AddedStanding.{AddedStanding}
 use Rattle.layout.specs.Added.{addedFits, addedAt}
 use Rattle.layout.specs.Places.{NUM-PLAYERS, DEALER-IDX, ROUND, ROUND-BEFORE, PLAYER-ACTIVE, PLAYER-ALL-IN, STARTING-PLAYER-ACTIVE, NEEDS-ACTION, TO-ACT-IDX, ROUND-LENGTH, TOTAL-BET-COUNT, TOTAL-RAISE-COUNT, FORCED-BET-COUNT, BB-POSTED, SB-POSTED, HAS-CAP, CAP, BOARD-LENGTH, BOARD, NUMBERS, TOTAL-POT, BIG-BLIND, SMALL-BLIND, ANTE, ROUND-BET, MIN-RAISE, STACKS, STARTING-STACKS, HAND-BETS, WINNINGS, ROUND-BETS, FLOATS}
 use Rattle.layout.specs.Words.{wordAt, setAt, byteAt, flagAt, roundAt, floatAt, sixteenAt}
@@ -107,15 +105,12 @@ standsIn fs ns = roomFor (length fs) (length ns) && wordsFit ns
 abbrev pub dataStandsIn : List Float → List ℕ → Bool
 dataStandsIn fs ns = roomFor (length fs) (length ns) && dataFits ns
 
--- ---- R15.3, R15.14, R15.15: the table, round data and what is added, read; zeros where there is no room
+-- ---- R15.3, R15.15: the table and round data, read; zeros where there is no room
 unfoldable pub tableIn : List Float → List ℕ → GameState
 tableIn fs ns = cond (roomFor (length fs) (length ns)) (tableAt fs ns) noTable
 
 unfoldable pub dataReadOf : List Float → List ℕ → DataStanding
 dataReadOf fs ns = cond (roomFor (length fs) (length ns)) (record { stands = dataFits ns; «data» = dataAt fs ns }) (record { stands = false; «data» = noData })
-
-unfoldable pub addedReadOf : List ℕ → AddedStanding
-addedReadOf ns = cond (leb NUMBERS (length ns)) (record { stands = addedFits ns; added = addedAt ns }) (record { stands = false; added = noAdded })
 
 -- R15.3: whether it is sound
 unfoldable pub soundIn : List ℕ → Bool

@@ -1,10 +1,10 @@
 // Where each part of a table stands in a host's two lists. The header, the Rust crate's places and the oracle's are written from this file by .ci/layout,
 // and the gate checks that they are. A comment behind a place goes with it.
 
-// The library's version: 20100 is 2.1.0. The layout's goes up when a place moves or is added.
-pub const VERSION: u32 = 20100;
+// The library's version: 20200 is 2.2.0. The layout's goes up when a place moves or is added.
+pub const VERSION: u32 = 20200;
 
-pub const LAYOUT: u32 = 1;
+pub const LAYOUT: u32 = 2;
 
 // Places of the numbers. A set of seats is the number of its bits: seat 0 is 1, seat 1 is 2, seat 2 is 4.
 pub const NUM_PLAYERS: usize = 0;
@@ -47,10 +47,19 @@ pub const BOARD: usize = 18; // five places
 
 pub const PASSED: usize = 23; // answer: seats that the walk of the last accepted step passed to
 
-// From here on stands what the Rust's record lacks: nothing yet.
+// From here on stands what the Rust's record lacks: the key of the hand, zeros where it has none.
 pub const ADDED: usize = 24;
 
-pub const NUMBERS: usize = 24;
+pub const KEY_CODE: usize = 24; // of the table, below 65536
+
+pub const KEY_YEAR: usize = 25; // below 65536; 0 means no key
+
+pub const KEY_HAND: usize = 26;
+
+// From here on no call reads or writes anything. A host keeps 0 there, for later versions.
+pub const FREE: usize = 27;
+
+pub const NUMBERS: usize = 32;
 
 // Places of the floats. A list has 16 of them, one for each seat.
 pub const TOTAL_POT: usize = 0;
@@ -117,7 +126,18 @@ pub const GIVEN_PLAYER_BET: usize = 14;
 
 pub const GIVEN_ROUND_DATA: usize = 15; // what stands at the round's places of floats and numbers before the call
 
-pub const GIVEN: usize = 16;
+pub const GIVEN_KEY: usize = 16; // 0: the table has no key
+
+pub const GIVEN_KEY_CODE: usize = 17; // below 65536
+
+pub const GIVEN_KEY_YEAR: usize = 18; // below 65536
+
+pub const GIVEN_KEY_HAND: usize = 19;
+
+// From here on nothing is read. A host keeps 0 there, for later versions.
+pub const GIVEN_FREE: usize = 20;
+
+pub const GIVEN: usize = 24;
 
 // Places of its amounts.
 pub const AMOUNT_BIG_BLIND: usize = 0;

@@ -2,26 +2,19 @@
 ghost use mathlib.Core.Path.{_≡_};
 ghost use mathlib.Core.Bool.{_&&_};
 ghost use lib.ListN.{length};
-ghost use Rattle.layout.specs.Standing.{roomFor, wordsFit, dataFits, boardFits, soundIn, frameAt, boardAt, dataAt, tableAt, tableIn, dataReadOf, addedReadOf};
+ghost use Rattle.layout.specs.Standing.{roomFor, wordsFit, dataFits, boardFits, soundIn, frameAt, boardAt, dataAt, tableAt, tableIn, dataReadOf};
 use crate::added;
 use crate::places;
 use crate::words;
 use rounds::RoundData;
 use seats::PlayerBitSet;
 use table::GameState;
-use table::added::Added;
 use table::soundness::Frame;
 
 // Whether round data stands there, and which; zeros where none does. Only the round's places are looked at.
 pub struct DataStanding {
     pub stands: bool,
     pub data: RoundData,
-}
-
-// The same of what the Rust's record lacks.
-pub struct AddedStanding {
-    pub stands: bool,
-    pub added: Added,
 }
 
 // Whether each word of the round is in the range of what it stands for.
@@ -208,20 +201,5 @@ pub fn read_data(floats: &[f32], numbers: &[u32]) -> DataStanding
     DataStanding {
         stands: false,
         data: RoundData::none(),
-    }
-}
-
-pub fn read_added(numbers: &[u32]) -> AddedStanding
-    ensures { λ r. ⌜ r ≡ addedReadOf (now (numbers .entry)) ⌝ }
-{
-    if places::NUMBERS <= numbers.len() {
-        return AddedStanding {
-            stands: added::fits(numbers),
-            added: added::at(numbers),
-        };
-    }
-    AddedStanding {
-        stands: false,
-        added: table::added::NONE,
     }
 }

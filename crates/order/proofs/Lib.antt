@@ -22,4 +22,5 @@ pub mod Hand
 pub mod Demand
 pub mod Sample
 pub mod Said
+pub mod LawsKey
 pub mod Promises

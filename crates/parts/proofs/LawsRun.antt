@@ -15,6 +15,7 @@ use Rattle.table.specs.declared.BetStep.{BetStep}
 use Rattle.table.specs.Pay.{betOf}
 use Rattle.table.specs.Sound.{soundOf}
 use Rattle.table.proofs.LawsSound.{bet-sound}
+use Rattle.table.proofs.LawsKey.{bet-carries}
 use Rattle.layout.specs.Outcome.{Outcome, outcome, floatsAfter, numbersAfter}
 use Rattle.layout.specs.Standing.{standsIn, tableAt, tableIn}
 use Rattle.layout.proofs.LawsOutcome.{After, refused-after}
@@ -63,6 +64,12 @@ module _ (l : List Float) (t : GameState) where
   unfolding ranTo
   ran-sound zero p = p
   ran-sound (suc k) p = bet-sound (ranTo k l t .table) (ran-sound k p) (getD l k nan) false
+
+  -- the key is that of the table at the start
+  pub ran-carries : (k : ℕ) → ranTo k l t .table .added ≡ t .added
+  unfolding ranTo
+  ran-carries zero = refl
+  ran-carries (suc k) = bet-carries (ranTo k l t .table) (getD l k nan) false ∙ ran-carries k
 
 -- ---- the run of the table in the lists
 module _ (fs : List Float) (ns : List ℕ) (l : List Float) where

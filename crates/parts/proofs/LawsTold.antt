@@ -52,7 +52,7 @@ module _ (t : GameState) (paid : Float) (passed : ℕ) (fs : List Float) (ns : L
 
   passed-laid : wordAt (laidNumbers t passed ns) RUN-TAKEN ≡ wordOf passed
   passed-laid =
-      added-apart (t .added) (copied 0 0 ns 0 (numbersOf t passed) ADDED) RUN-TAKEN (omega arith)
+      added-apart (t .added) (copied 0 0 ns 0 (numbersOf t passed) ADDED) RUN-TAKEN (λ l h. omega arith)
       ∙ (λ i. wordAt (copied-front 0 ns (numbersOf t passed) ADDED ADDED (omega arith) i) RUN-TAKEN)
       ∙ filled-at ns (λ k. getD (numbersOf t passed) k 0) ADDED RUN-TAKEN 0 (omega arith) (omega arith)
 

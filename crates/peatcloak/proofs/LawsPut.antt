@@ -3,7 +3,7 @@
 use Prim.Native.Nat.{ℕ, _+_, _<_, _≤_, _%_}
 use native.Mathlib.Nat.{mod-eq-of-lt, lt-of-lt-of-le}
 use native.Mathlib.Omega.{arith}
-use mathlib.Core.Path.{_≡_, refl, sym, subst, ap, _∙_}
+use mathlib.Core.Path.{_≡_, refl, sym, ap, _∙_}
 use mathlib.Core.Bool.{Bool, true, false, cond}
 use mathlib.Core.List.{List, [], _∷_}
 use lib.Dec.{eqb}
@@ -15,7 +15,6 @@ use Rattle.seats.specs.Set.{ofBits}
 use Rattle.rounds.specs.declared.paying.Payer.{Payer}
 use Rattle.rounds.specs.Paying.{payerOf, stakeOf}
 use Rattle.rounds.specs.With.{dataOf}
-use Rattle.table.specs.declared.GameState.{GameState}
 use Rattle.table.specs.Pay.{payerIn, withPayer}
 use Rattle.table.specs.With.{tableOf}
 use Rattle.layout.specs.Places.{NUM-PLAYERS, DEALER-IDX, ROUND, ROUND-BEFORE, PLAYER-ACTIVE, PLAYER-ALL-IN, STARTING-PLAYER-ACTIVE, NEEDS-ACTION, TO-ACT-IDX, ROUND-LENGTH, TOTAL-BET-COUNT, TOTAL-RAISE-COUNT, FORCED-BET-COUNT, BB-POSTED, SB-POSTED, HAS-CAP, CAP, BOARD-LENGTH, BOARD, PASSED, ADDED, NUMBERS, TOTAL-POT, BIG-BLIND, SMALL-BLIND, ANTE, ROUND-BET, MIN-RAISE, PAID, STACKS, STARTING-STACKS, HAND-BETS, WINNINGS, ROUND-BETS, FLOATS}
@@ -177,28 +176,28 @@ module _ (ns : List ℕ) (p : Payer) (passed : ℕ) (room : NUMBERS ≤ length n
       (put 0 NUMBERS j n2 NEEDS-ACTION (p .owing) _ (omega arith)
       (put 0 NUMBERS j n1 PLAYER-ALL-IN (p .«all_in») _ (omega arith) (put 0 NUMBERS j ns PLAYER-ACTIVE (p .active) _ (omega arith) (room, refl))))))))
 
-  -- what is added stands behind them all
-  past : (l : List ℕ) (k a j : ℕ) → k < ADDED → ADDED ≤ j → wordAt (set l k a) j ≡ wordAt l j
-  past l k a j h g = getD-set-other l k j a 0 (λ e. omega arith)
+-- what is added stands behind them all
+past : (l : List ℕ) (k a j : ℕ) → k < ADDED → ADDED ≤ j → wordAt (set l k a) j ≡ wordAt l j
+past l k a j h g = getD-set-other l k j a 0 (λ e. omega arith)
 
-  added-read : (j : ℕ) → ADDED ≤ j → wordAt ns′ j ≡ wordAt ns j
-  unfolding numbersWith
-  added-read j h =
-      let n1 = set ns PLAYER-ACTIVE (p .active) in
-      let n2 = set n1 PLAYER-ALL-IN (p .«all_in») in
-      let n3 = set n2 NEEDS-ACTION (p .owing) in
-      let n4 = set n3 TO-ACT-IDX (wordOf (p .seat)) in
-      let n5 = set n4 TOTAL-BET-COUNT (p .stake .total) in
-      let n6 = set n5 TOTAL-RAISE-COUNT (p .stake .raises) in
-      let n7 = set n6 FORCED-BET-COUNT (p .stake .forced) in
-      past n7 PASSED (wordOf passed) j (omega arith) h
-      ∙ past n6 FORCED-BET-COUNT (p .stake .forced) j (omega arith) h
-      ∙ past n5 TOTAL-RAISE-COUNT (p .stake .raises) j (omega arith) h
-      ∙ past n4 TOTAL-BET-COUNT (p .stake .total) j (omega arith) h
-      ∙ past n3 TO-ACT-IDX (wordOf (p .seat)) j (omega arith) h
-      ∙ past n2 NEEDS-ACTION (p .owing) j (omega arith) h
-      ∙ past n1 PLAYER-ALL-IN (p .«all_in») j (omega arith) h
-      ∙ past ns PLAYER-ACTIVE (p .active) j (omega arith) h
+pub added-read : (ns : List ℕ) (p : Payer) (passed j : ℕ) → ADDED ≤ j → wordAt (numbersWith ns p passed) j ≡ wordAt ns j
+unfolding numbersWith
+added-read ns p passed j h =
+    let n1 = set ns PLAYER-ACTIVE (p .active) in
+    let n2 = set n1 PLAYER-ALL-IN (p .«all_in») in
+    let n3 = set n2 NEEDS-ACTION (p .owing) in
+    let n4 = set n3 TO-ACT-IDX (wordOf (p .seat)) in
+    let n5 = set n4 TOTAL-BET-COUNT (p .stake .total) in
+    let n6 = set n5 TOTAL-RAISE-COUNT (p .stake .raises) in
+    let n7 = set n6 FORCED-BET-COUNT (p .stake .forced) in
+    past n7 PASSED (wordOf passed) j (omega arith) h
+    ∙ past n6 FORCED-BET-COUNT (p .stake .forced) j (omega arith) h
+    ∙ past n5 TOTAL-RAISE-COUNT (p .stake .raises) j (omega arith) h
+    ∙ past n4 TOTAL-BET-COUNT (p .stake .total) j (omega arith) h
+    ∙ past n3 TO-ACT-IDX (wordOf (p .seat)) j (omega arith) h
+    ∙ past n2 NEEDS-ACTION (p .owing) j (omega arith) h
+    ∙ past n1 PLAYER-ALL-IN (p .«all_in») j (omega arith) h
+    ∙ past ns PLAYER-ACTIVE (p .active) j (omega arith) h
 
 -- ---- the table after it is the one that stood there, with the payer
 pub put-stands : (fs : List Float) (ns : List ℕ) (p : Payer) (paid : Float) (passed : ℕ)
@@ -243,7 +242,7 @@ put-stands fs ns p paid passed long longs low f seat =
     (eqb (word SB-POSTED z) 1)
     (eqb (word HAS-CAP z) 1)
     (word CAP z % 256)
-    (added-same (numbersWith ns p passed) ns (added-read ns p passed longs) z)
+    (added-same (numbersWith ns p passed) ns (λ j l h. added-read ns p passed j l) z)
 
 -- ---- the payer of the table after it is the one that was put
 pub put-payer : (fs : List Float) (ns : List ℕ) (p : Payer) → wordAt ns TO-ACT-IDX < 16 → payerOn (withPayer (tableAt fs ns) p) (wordAt ns TO-ACT-IDX) ≡ p

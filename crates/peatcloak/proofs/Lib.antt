@@ -5,6 +5,8 @@ pub mod LawsPlayed
 pub mod LawsPut
 pub mod LawsBet
 pub mod LawsSettled
+pub mod LawsKey
+pub mod LawsGiven
 pub mod LawsSeats
 pub mod LawsDataBack
 pub mod LawsDataFits

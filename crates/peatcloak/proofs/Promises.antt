@@ -37,6 +37,9 @@ peatcloak-build κs a x y = same and same and only (first same)
 pub peatcloak-play : OneResult crate.playing.peatcloak_play.ended crate.playing.peatcloak_play.Reads.Learnt
 peatcloak-play κs a x y = same and past (only same)
 
+pub peatcloak-play-table : OneResult crate.playing.peatcloak_play_table.ended crate.playing.peatcloak_play_table.Reads.Learnt
+peatcloak-play-table κs a x y = same and same and only (first same)
+
 -- ---- src/settling.rt
 pub peatcloak-settle : OneResult crate.settling.peatcloak_settle.ended crate.settling.peatcloak_settle.Reads.Learnt
 peatcloak-settle κs a x y = same and same and same and past (only (first same))

@@ -18,9 +18,10 @@ use Rattle.builder.specs.Cards.{cardsTo}
 use Rattle.builder.specs.Setters.{builderOf}
 use Rattle.layout.specs.Outcome.{Outcome}
 use Rattle.layout.specs.Places.{FLOATS, NUMBERS, GIVEN-STACKS, GIVEN-BIG-BLIND, GIVEN-SMALL-BLIND, GIVEN-ANTE, GIVEN-DEALER, GIVEN-DEALER-IS, GIVEN-CAP, GIVEN-CAP-CAPS, GIVEN-CAP-IS, GIVEN-ROUND, GIVEN-ROUND-IS, GIVEN-BOARD, GIVEN-HANDS, GIVEN-HANDS-ARE, GIVEN-PLAYER-BET, GIVEN-ROUND-DATA, GIVEN, AMOUNT-BIG-BLIND, AMOUNT-SMALL-BLIND, AMOUNT-ANTE, AMOUNTS}
-use Rattle.layout.specs.Standing.{roomFor, wordsFit, dataReadOf, addedReadOf}
+use Rattle.layout.specs.Standing.{roomFor, wordsFit, dataReadOf}
 use Rattle.layout.specs.Words.{wordAt, byteAt, flagAt, roundAt, floatAt}
 use Rattle.peatcloak.specs.Calls.{judged, nothingThere}
+use Rattle.peatcloak.specs.GivenAdded.{addedGiven, addedGivenFits}
 
 -- ---- what is given
 abbrev pub amountGiven : Bool → Float → GivenAmount
@@ -50,7 +51,7 @@ builderAt fs ns stacks bets board amounts gs =
     (numberGiven (flagAt gs GIVEN-HANDS) (wordAt gs GIVEN-HANDS-ARE))
     (amountsGiven (flagAt gs GIVEN-PLAYER-BET) bets)
     (record { given = flagAt gs GIVEN-ROUND-DATA; value = dataReadOf fs ns .«data» })
-    (addedReadOf ns .added)
+    (addedGiven gs)
 
 -- ---- whether the lists tell one
 abbrev pub givenTests : List ℕ → List Bool
@@ -69,6 +70,7 @@ givenTests gs =
     ∷ ltb (wordAt gs GIVEN-HANDS) 2
     ∷ ltb (wordAt gs GIVEN-PLAYER-BET) 2
     ∷ ltb (wordAt gs GIVEN-ROUND-DATA) 2
+    ∷ addedGivenFits gs
     ∷ []
 
 unfoldable pub givenFit : List ℕ → Bool
@@ -80,9 +82,9 @@ roomTests floats numbers amounts given = leb FLOATS floats ∷ leb NUMBERS numbe
 unfoldable pub roomToBuild : ℕ → ℕ → ℕ → ℕ → Bool
 roomToBuild floats numbers amounts given = allOf (roomTests floats numbers amounts given)
 
--- what is added must fit, and round data that is given must stand there
+-- round data that is given must stand there
 abbrev pub tells : ℕ → List ℕ → List ℕ → Bool
-tells floats ns gs = givenFit gs && (addedReadOf ns .stands && (not (flagAt gs GIVEN-ROUND-DATA) || (roomFor floats (length ns) && wordsFit ns)))
+tells floats ns gs = givenFit gs && (not (flagAt gs GIVEN-ROUND-DATA) || (roomFor floats (length ns) && wordsFit ns))
 
 -- ---- the build
 abbrev pub built : BuildStep → Outcome

@@ -1,7 +1,9 @@
 pub mod Calls
 pub mod Put
 pub mod Asking
+pub mod GivenAdded
 pub mod Building
 pub mod Settling
+pub mod Playing
 pub mod Seats
 pub mod Rounds

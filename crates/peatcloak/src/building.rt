@@ -1,11 +1,11 @@
-// A table built into the host's lists. What is given, and what not, stands in `given`; the round data, where given, and what the Rust's record lacks at their
-// places of the lists.
+// A table built into the host's lists. What is given, and what not, stands in `given`; the round data, where given, at its places of the lists.
 ghost use mathlib.Core.Path.{_≡_};
 ghost use mathlib.Core.Bool.{_&&_};
 ghost use lib.ListN.{length};
 ghost use Rattle.layout.specs.Outcome.{floatsAfter, numbersAfter};
 ghost use Rattle.peatcloak.specs.Building.{givenFit, amountsGiven, boardGiven, builderAt, roomToBuild, tells, buildOn};
 ghost use Rattle.peatcloak.specs.Calls.{Stands};
+use crate::given_added;
 use crate::outcomes;
 use builder::GameStateBuilder;
 use builder::GivenAmount;
@@ -26,7 +26,8 @@ fn given_fit(given: &[u32]) -> bool
     let last = words::is_below(given, places::GIVEN_BOARD, 2)
         & (words::is_below(given, places::GIVEN_HANDS, 2)
             & (words::is_below(given, places::GIVEN_PLAYER_BET, 2)
-                & words::is_below(given, places::GIVEN_ROUND_DATA, 2)));
+                & (words::is_below(given, places::GIVEN_ROUND_DATA, 2)
+                    & given_added::fits(given))));
     let cap = words::is_below(given, places::GIVEN_CAP, 2)
         & (words::is_below(given, places::GIVEN_CAP_CAPS, 2)
             & (words::is_below(given, places::GIVEN_CAP_IS, 256)
@@ -81,8 +82,7 @@ fn builder_of(
     let the_board = board_of(words::flag_at(given, places::GIVEN_BOARD), board);
     let d = standing::read_data(floats, numbers);
     let data = d.data;
-    let a = standing::read_added(numbers);
-    let added = a.added;
+    let added = given_added::of(given);
     let round = words::round_at(given, places::GIVEN_ROUND_IS);
     GameStateBuilder {
         stacks: the_stacks,
@@ -133,8 +133,7 @@ fn is_told(floats: usize, amounts: usize, numbers: &[u32], given: &[u32]) -> boo
         & ((places::NUMBERS <= numbers.len())
             & ((places::AMOUNTS <= amounts) & (places::GIVEN <= given.len())));
     let data = !words::flag_at(given, places::GIVEN_ROUND_DATA) | standing::stands(floats, numbers);
-    let a = standing::read_added(numbers);
-    room & (given_fit(given) & (a.stands & data))
+    room & (given_fit(given) & data)
 }
 
 #[no_mangle]

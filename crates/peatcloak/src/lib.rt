@@ -3,6 +3,7 @@
 pub mod asking;
 mod bet;
 pub mod building;
+mod given_added;
 mod outcomes;
 pub mod playing;
 pub mod round_calls;
@@ -14,7 +15,6 @@ ghost use mathlib.Core.Bool.{not};
 ghost use lib.Dec.{eqb};
 ghost use lib.ListN.{length};
 ghost use Rattle.layout.specs.Outcome.{floatsAfter, numbersAfter};
-ghost use Rattle.layout.specs.Standing.{tableAt};
 ghost use Rattle.peatcloak.specs.Calls.{versionNumber, versionTold, foldOn, advanceOn, completeOn, awardOn, betOn, Stands};
 ghost use Rattle.peatcloak.specs.Put.{floatsPut, numbersPut};
 use layout::places;

@@ -3,6 +3,7 @@ use crate::agreeing;
 use crate::agreeing::Told;
 use crate::changes;
 use crate::inputs;
+use crate::key_words;
 use crate::reading;
 use crate::reading::NOWHERE;
 use crate::table_words;
@@ -10,10 +11,12 @@ use crate::words;
 use crate::words::Words;
 use builder::BuildStep;
 use builder::GameStateBuilder;
+use keys::HandKey;
 use layout::words::round_at;
 use layout::words::sixteen_at;
 use layout::words::word_of;
 use rounds::RoundData;
+use table::GameState;
 
 // Whether a field is given, and the place after its letter or its dash.
 struct Given {
@@ -275,6 +278,23 @@ fn make_data(line: &[u8], m: Making) -> Making {
     }
 }
 
+// A key stands last, and only where one is given.
+fn make_key(line: &[u8], m: Making) -> Making {
+    let mark = reading::read_mark(line, m.next);
+    let b = m.builder;
+    if mark.byte == b'K' {
+        let k = key_words::read_key(line, mark.next);
+        return Making {
+            builder: b.hand_key(k.value),
+            next: k.next,
+        };
+    }
+    Making {
+        builder: b,
+        next: m.next,
+    }
+}
+
 fn read_builder(line: &[u8], at: usize) -> Making {
     let none = Making {
         builder: GameStateBuilder::new(),
@@ -290,13 +310,27 @@ fn read_builder(line: &[u8], at: usize) -> Making {
     let board = make_board(line, round);
     let hands = make_number(line, board, b'H');
     let bets = make_amounts(line, hands, b'P');
-    make_data(line, bets)
+    let data = make_data(line, bets);
+    make_key(line, data)
 }
 
-fn told_step(line: &[u8], at: usize, step: BuildStep, table: &mut Words) -> Told {
+// A table that is built has the key that was given, a refused build none.
+fn is_keyed(t: GameState, answer: u8, given: HandKey) -> bool {
+    let added = t.added;
+    let key = added.key;
+    if answer == 0 {
+        return key.is_same(given);
+    }
+    key.is_same(keys::NONE)
+}
+
+fn told_step(line: &[u8], at: usize, key: HandKey, step: BuildStep, table: &mut Words) -> Told {
     *table = words::ZEROS;
     let t = step.table;
     let answer = step.answer;
+    if !is_keyed(t, answer.number(), key) {
+        return agreeing::no_match();
+    }
     let ours = table_words::of_table(t);
     let told = agreeing::told_answer(line, at, answer.number(), agreeing::answered(line, at));
     changes::agree(line, at, 0, told, &ours, false, table)
@@ -306,7 +340,8 @@ pub fn ask(letter: u8, line: &[u8], at: usize, table: &mut Words) -> Told {
     if letter == b'b' {
         let m = read_builder(line, at);
         let b = m.builder;
-        return told_step(line, m.next, b.build(), table);
+        let given = b.added;
+        return told_step(line, m.next, given.key, b.build(), table);
     }
     agreeing::no_match()
 }

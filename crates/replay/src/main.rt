@@ -7,6 +7,7 @@ mod decoding;
 mod float_lines;
 mod inputs;
 mod judging;
+mod key_words;
 mod lines;
 mod lists;
 mod loading;

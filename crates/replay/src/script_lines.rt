@@ -1,20 +1,23 @@
-// The list of scripts, case by case: `#` says what a case shows, `>` and `|` are its script, `<` is a line that it prints, and an
-// empty line ends it.
+// The list of scripts, case by case: `#` says what a case shows, `>` and `|` are its script, `<` is a line that it prints, `@` the key that its table
+// carries at the end, and an empty line ends it.
 use crate::agreeing;
 use crate::agreeing::LOADED;
 use crate::agreeing::Told;
 use crate::decoding;
 use crate::decoding::Script;
 use crate::inputs;
+use crate::key_words;
 use crate::playing;
 use crate::playing::Printed;
 use crate::reading;
 use crate::reading::NOWHERE;
+use console::ending;
+use keys::HandKey;
 
-// What is kept of a case: three numbers.
-pub type Case = [usize; 3];
+// What is kept of a case: three numbers, whether its key was said, and the key's three.
+pub type Case = [usize; 7];
 
-pub const NO_CASE: Case = [0; 3];
+pub const NO_CASE: Case = [0; 7];
 
 // The bytes of its script so far, nowhere if they are malformed.
 const LENGTH: usize = 0;
@@ -24,6 +27,15 @@ const PRINTED: usize = 1;
 
 // How many of them the list has said.
 const SAID: usize = 2;
+
+// Whether the list has said the key: 1.
+const KEYED: usize = 3;
+
+const CODE: usize = 4;
+
+const YEAR: usize = 5;
+
+const HAND: usize = 6;
 
 // A line that says all of itself, or nothing.
 fn told_whole(line: &[u8], is_agreed: bool, answer: u8) -> Told {
@@ -47,6 +59,28 @@ fn append(line: &[u8], at: usize, is_ended: bool, script: &mut Script, case: &mu
     told_whole(line, is_good, LOADED)
 }
 
+fn short(n: u16) -> usize {
+    n as usize
+}
+
+fn full(n: u32) -> usize {
+    n as usize
+}
+
+fn keep_key(case: &mut Case, key: HandKey) {
+    case[CODE] = short(key.code);
+    case[YEAR] = short(key.year);
+    case[HAND] = full(key.hand);
+}
+
+// The key of the table that stands at a script's end.
+fn key_at_end(script: &[u8]) -> HandKey {
+    let s = ending::end_of(script);
+    let t = s.table;
+    let added = t.added;
+    added.key
+}
+
 // The script is played once it is whole.
 fn play(script: &Script, printed: &mut Printed, case: &mut Case) {
     let len = case[LENGTH];
@@ -55,8 +89,19 @@ fn play(script: &Script, printed: &mut Printed, case: &mut Case) {
         case[PRINTED] = NOWHERE;
         if len <= all.len() {
             case[PRINTED] = playing::play(&all[0..len], printed);
+            keep_key(case, key_at_end(&all[0..len]));
         }
     }
+}
+
+// The line says the key that the table carries.
+fn say_key(line: &[u8], at: usize, case: &mut Case) -> Told {
+    let k = key_words::read_key(line, at);
+    let said = k.value;
+    let is_agreed = (short(said.code) == case[CODE])
+        & ((short(said.year) == case[YEAR]) & (full(said.hand) == case[HAND]));
+    case[KEYED] = 1;
+    told_whole(line, is_agreed & (k.next == reading::end_of(line)), 0)
 }
 
 // Whether the line's text is what stands between two places.
@@ -100,7 +145,7 @@ pub fn ask(line: &[u8], script: &mut Script, printed: &mut Printed, case: &mut C
     let mark = head.byte;
     if line.len() == 0 {
         play(script, printed, case);
-        let is_agreed = case[SAID] == case[PRINTED];
+        let is_agreed = (case[SAID] == case[PRINTED]) & ((case[YEAR] == 0) | (case[KEYED] == 1));
         *case = NO_CASE;
         return told_whole(line, is_agreed, LOADED);
     }
@@ -111,6 +156,10 @@ pub fn ask(line: &[u8], script: &mut Script, printed: &mut Printed, case: &mut C
         b'<' => {
             play(script, printed, case);
             say_next(line, head.next, printed, case)
+        }
+        b'@' => {
+            play(script, printed, case);
+            say_key(line, head.next, case)
         }
         _ => agreeing::no_match(),
     }

@@ -1,5 +1,6 @@
 pub mod Accepted
 pub mod Again
+pub mod LawsKey
 pub mod Nets
 pub mod OddChips
 pub mod Promises

@@ -1,5 +1,6 @@
 pub mod Bet
 pub mod Hands
+pub mod LawsKey
 pub mod LawsOpening
 pub mod LawsPlaces
 pub mod LawsRows

@@ -5,8 +5,8 @@ use lists::table::{MAX_SEATS, Table};
 use peatcloak::parts::peatcloak_run_bets;
 use peatcloak::sys::{
     peatcloak_advance_round, peatcloak_award, peatcloak_build, peatcloak_complete,
-    peatcloak_do_bet, peatcloak_fold, peatcloak_player_reward, peatcloak_queries,
-    peatcloak_round_advance_action, peatcloak_round_do_bet, peatcloak_round_new,
+    peatcloak_do_bet, peatcloak_fold, peatcloak_play_table, peatcloak_player_reward,
+    peatcloak_queries, peatcloak_round_advance_action, peatcloak_round_do_bet, peatcloak_round_new,
     peatcloak_round_new_with_bets, peatcloak_round_queries, peatcloak_settle,
 };
 
@@ -75,6 +75,10 @@ pub fn settle(table: &mut Table, ranks: &[u16; MAX_SEATS]) -> (u32, [i32; MAX_SE
     let (given, taken) = (ranks.as_ptr(), rewards.as_mut_ptr());
     let refused = call!(peatcloak_settle, table, given, MAX_SEATS, taken, MAX_SEATS);
     (refused, rewards)
+}
+
+pub fn play_table(table: &mut Table, script: &[u8]) -> u32 {
+    call!(peatcloak_play_table, table, script.as_ptr(), script.len())
 }
 
 pub fn run_bets(table: &mut Table, amounts: &[f32]) -> u32 {

@@ -5,8 +5,9 @@ use lists::builders;
 use lists::carry;
 use lists::draw::Draw;
 use lists::faults::FAULTS;
+use lists::key::{self, Key};
 use lists::line::Line;
-use lists::places::{AMOUNTS, GIVEN, amount, given};
+use lists::places::{AMOUNTS, GIVEN, NUMBERS, amount, given};
 use lists::table::{MAX_SEATS, Table, place};
 
 use crate::boundary::{self, Given};
@@ -14,12 +15,17 @@ use crate::difference::{Difference, shown, tell_places};
 use crate::same;
 use crate::tally::{Kind, Tally};
 
-/// A good builder, with none to three faults.
+/// A good builder, with none to three faults, and a key or none.
 pub fn any(draw: &mut Draw, tally: &mut Tally) -> Result<(), Box<Difference>> {
     let mut builder = builders::good(draw);
     for _ in 0..draw.pick(&[0, 0, 0, 0, 1, 1, 2, 3]) {
         draw.pick(&FAULTS)(draw, &mut builder);
     }
+    builder.key = match draw.below(8) {
+        0..=3 => None,
+        4 => Some(key::bad(draw)),
+        _ => Some(key::good(draw)),
+    };
     tally.count(Kind::Build, builder.build().err().unwrap_or(0));
     if is_same(&builder) { Ok(()) } else { Err(told(&smaller(builder))) }
 }
@@ -30,13 +36,20 @@ fn is_same(builder: &Builder) -> bool {
     let refused = ours(&mut got, builder);
     match builder.build() {
         Err(number) => refused == number && got.words == before.words,
-        Ok(table) => refused == 0 && same::tables(&got, &table, &[]),
+        Ok(table) => refused == 0 && same::tables(&got, &same::laid_over(table, &before), &[]),
     }
 }
 
-/// Given round data stands at its places before the call; of a longer list, its first 16 places.
+/// The hand that was at the table before, and what stands at the words that no call reads or writes.
+const OLD_KEY: Key = Key::new(7, 1999, 99);
+const FREE_WORD: u32 = 0xdead_beef;
+
+/// Given round data stands at its places before the call; of a longer list, its first 16 places. The last hand's key
+/// stands there too.
 fn before(builder: &Builder) -> Table {
     let mut table = Table::ZEROS;
+    OLD_KEY.put(&mut table);
+    table.words[place::FREE..NUMBERS].fill(FREE_WORD);
     if let Some(data) = &builder.round_data {
         let mut sixteen = data.clone();
         sixteen.player_bet.truncate(MAX_SEATS);
@@ -52,7 +65,7 @@ fn ours(table: &mut Table, builder: &Builder) -> u32 {
         player_bet: builder.player_bet.as_deref().unwrap_or(&[]),
         board: builder.board.as_deref().unwrap_or(&[]),
         amounts: [0.0; AMOUNTS],
-        given: [0; GIVEN],
+        given: [FREE_WORD; GIVEN],
     };
     let amounts = [
         (amount::BIG_BLIND, builder.big_blind),
@@ -65,8 +78,9 @@ fn ours(table: &mut Table, builder: &Builder) -> u32 {
 }
 
 /// What is given, and its number.
-fn words(builder: &Builder) -> [(usize, u32); GIVEN] {
+fn words(builder: &Builder) -> [(usize, u32); given::FREE] {
     let cap = builder.cap.flatten();
+    let key = builder.key.unwrap_or(Key::NONE);
     [
         (given::STACKS, builder.stacks.is_some().into()),
         (given::BIG_BLIND, builder.big_blind.is_some().into()),
@@ -84,12 +98,16 @@ fn words(builder: &Builder) -> [(usize, u32); GIVEN] {
         (given::HANDS_ARE, builder.hands.unwrap_or(0) as u32),
         (given::PLAYER_BET, builder.player_bet.is_some().into()),
         (given::ROUND_DATA, builder.round_data.is_some().into()),
+        (given::KEY, builder.key.is_some().into()),
+        (given::KEY_CODE, key.code.into()),
+        (given::KEY_YEAR, key.year.into()),
+        (given::KEY_HAND, key.hand),
     ]
 }
 
 /// As few fields as still differ.
 fn smaller(mut builder: Builder) -> Builder {
-    let drop_one: [fn(&mut Builder); 9] = [
+    let drop_one: [fn(&mut Builder); 10] = [
         |builder| builder.small_blind = None,
         |builder| builder.ante = None,
         |builder| builder.dealer_idx = None,
@@ -99,6 +117,7 @@ fn smaller(mut builder: Builder) -> Builder {
         |builder| builder.hands = None,
         |builder| builder.player_bet = None,
         |builder| builder.round_data = None,
+        |builder| builder.key = None,
     ];
     for drop in drop_one {
         let mut fewer = builder.clone();
@@ -117,7 +136,7 @@ fn told(builder: &Builder) -> Box<Difference> {
     told += &format!("ours  refused {refused}, {}\n", shown(&got));
     match builder.build() {
         Err(number) => told += &format!("Rust  refused {number}\n"),
-        Ok(table) => tell_places(&mut told, &got, &table, &[]),
+        Ok(table) => tell_places(&mut told, &got, &same::laid_over(table, &before(builder)), &[]),
     }
     Difference::new(told)
 }

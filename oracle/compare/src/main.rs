@@ -5,6 +5,7 @@ mod builds;
 mod difference;
 mod differing;
 mod floats;
+mod keys;
 mod options;
 mod pair;
 mod rounds;

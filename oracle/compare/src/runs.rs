@@ -9,6 +9,7 @@ use lists::{broken, sound, tables, wagers};
 
 use crate::boundary;
 use crate::difference::{Difference, shown, tell_places};
+use crate::keys;
 use crate::pair::Pair;
 use crate::same;
 use crate::tally::{Kind, Tally};
@@ -19,6 +20,7 @@ pub fn any(draw: &mut Draw, tally: &mut Tally) -> Result<(), Box<Difference>> {
         1..=9 => tables::half_played(draw),
         _ => tables::strange(draw),
     };
+    let table = keys::any(draw, table);
     let (amounts, after) = one_by_one(draw, &table, tally)?;
     let expected = if sound::record(&table) { 0 } else { BAD_RECORD };
     match expected {

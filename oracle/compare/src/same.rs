@@ -88,6 +88,14 @@ pub fn untouched(before: &Table, after: &Table) -> bool {
         && kept(place::PAID + 1, place::STACKS)
 }
 
+/// A table laid over another: the words that are no table's stay.
+pub fn laid_over(mut table: Table, before: &Table) -> Table {
+    for range in [place::FREE..NUMBERS, place::PAID + 1..place::STACKS] {
+        table.words[range.clone()].copy_from_slice(&before.words[range]);
+    }
+    table
+}
+
 #[cfg(test)]
 mod tests {
     use lists::carry;

@@ -9,12 +9,14 @@ use lists::table::{MAX_SEATS, Table, place};
 
 use crate::boundary;
 use crate::difference::{Difference, shown, tell_places};
+use crate::keys;
 use crate::shrink;
 use crate::tally::{Kind, Tally};
 
 /// A table drawn as the list `settlements` draws them, settled once or twice.
 pub fn drawn(draw: &mut Draw, tally: &mut Tally) -> Result<(), Box<Difference>> {
-    let mut table = settlements::drawn(draw);
+    let table = settlements::drawn(draw);
+    let mut table = keys::any(draw, table);
     once(draw, &table, tally)?;
     let ranks = ranks(draw, &table);
     if boundary::settle(&mut table, &ranks).0 == 0 {

@@ -6,6 +6,7 @@ use lists::table::{MAX_BOARD, MAX_SEATS, SEAT_LISTS, Table, place};
 use lists::{amounts, broken, edges, play, tables};
 
 use crate::difference::Difference;
+use crate::keys;
 use crate::pair::Pair;
 use crate::settle;
 use crate::tally::Tally;
@@ -20,7 +21,7 @@ pub fn any(draw: &mut Draw, tally: &mut Tally) -> Result<(), Box<Difference>> {
         _ => tables::strange(draw),
     };
     let table = if draw.once_in(8) { with_tails(draw, table) } else { table };
-    let mut pair = Pair::load(&table);
+    let mut pair = Pair::load(&keys::any(draw, table));
     for _ in 0..draw.within(1, 60) {
         let step = play::at_random(draw, &pair.ours);
         pair.take(&step, tally)?;
@@ -31,7 +32,7 @@ pub fn any(draw: &mut Draw, tally: &mut Tally) -> Result<(), Box<Difference>> {
 /// Bets from just below a line upward until one is accepted, and some steps after it.
 fn around_a_line(draw: &mut Draw, tally: &mut Tally) -> Result<(), Box<Difference>> {
     let (table, mut amount) = edges::drawn(draw);
-    let mut pair = Pair::load(&table);
+    let mut pair = Pair::load(&keys::good(draw, table));
     for _ in 0..edges::TRIES {
         pair.take(&Step::Bet(amount), tally)?;
         amount = amount.next_up();
@@ -56,7 +57,7 @@ fn with_tails(draw: &mut Draw, mut table: Table) -> Table {
 /// A hand from its start to its end, and some steps after it; now and then it is settled at its end.
 pub fn hand(draw: &mut Draw, tally: &mut Tally) -> Result<(), Box<Difference>> {
     let table = tables::new_game(draw);
-    let mut pair = Pair::load(&table);
+    let mut pair = Pair::load(&keys::good(draw, table));
     let mut is_over = false;
     for _ in 0..draw.within(40, 250) {
         let step = play::in_turn(draw, &pair.ours);

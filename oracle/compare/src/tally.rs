@@ -27,9 +27,10 @@ pub enum Kind {
     Settle,
     Run,
     Script,
+    ScriptEnd,
 }
 
-const NAMES: [&str; 20] = [
+const NAMES: [&str; 21] = [
     "seat sets",
     "float helpers",
     "round data made",
@@ -50,6 +51,7 @@ const NAMES: [&str; 20] = [
     "settlements",
     "bets in a run",
     "script lines",
+    "tables of scripts",
 ];
 
 #[derive(Clone, Default)]

@@ -4,6 +4,7 @@ use rs_poker::arena::{GameState, GameStateBuilder, GameStateBuilderError, RoundD
 use rs_poker::core::{Card, Hand};
 
 use crate::carry::{self, ROUNDS};
+use crate::key::Key;
 use crate::line::Line;
 use crate::refusals::{self, BAD_CARD, BAD_RECORD, Refusal};
 use crate::sound;
@@ -25,6 +26,7 @@ pub struct Builder {
     pub hands: Option<usize>,
     pub player_bet: Option<Vec<f32>>,
     pub round_data: Option<RoundData>,
+    pub key: Option<Key>,
 }
 
 impl Builder {
@@ -33,16 +35,19 @@ impl Builder {
         self.stacks.as_ref().map_or(2, Vec::len)
     }
 
-    /// The answer: the Rust's, and after it ours, 18 and 19.
+    /// The answer: the Rust's, and after it ours, 18 and 19. The key is looked at last, and the table carries it.
     pub fn build(&self) -> Result<Table, Refusal> {
         let state = self.ask().map_err(refusals::of_build)?;
         if self.first_bad_card().is_some() {
             return Err(BAD_CARD);
         }
-        if !self.round_data_fits(state.num_players) {
+        let key = self.key.unwrap_or(Key::NONE);
+        if !self.round_data_fits(state.num_players) || !key.is_good() {
             return Err(BAD_RECORD);
         }
-        Ok(carry::table(&state))
+        let mut table = carry::table(&state);
+        key.put(&mut table);
+        Ok(table)
     }
 
     fn ask(&self) -> Result<GameState, GameStateBuilderError> {
@@ -115,7 +120,9 @@ impl Builder {
         });
         let line = optional(line, &self.hands, |line, count| line.token('H').token(count));
         let line = optional(line, &self.player_bet, |line, bets| floats(line.token('P'), bets));
-        optional(line, &self.round_data, write_round_data)
+        let line = optional(line, &self.round_data, write_round_data);
+        // A key has no dash where it is not given, so that lists without one are as they were.
+        self.key.iter().fold(line, |line, key| line.token('K').token(key))
     }
 }
 

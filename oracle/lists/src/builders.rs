@@ -23,6 +23,7 @@ pub fn good(draw: &mut Draw) -> Builder {
         hands: given(draw, |_| n),
         player_bet: given(draw, |draw| (0..n).map(|_| hand_bet(draw)).collect()),
         round_data: given(draw, |draw| round_data(draw, n)),
+        key: None,
     }
 }
 

@@ -15,6 +15,7 @@ pub mod edges;
 pub mod faults;
 pub mod floats;
 pub mod hands;
+pub mod key;
 pub mod kinds;
 pub mod line;
 pub mod list;

@@ -1,9 +1,9 @@
 //! Where each word of a table stands. Written by .ci/layout from crates/layout/src/places.rt.
 
 /// How many places each list has.
-pub const NUMBERS: usize = 24;
+pub const NUMBERS: usize = 32;
 pub const FLOATS: usize = 88;
-pub const GIVEN: usize = 16;
+pub const GIVEN: usize = 24;
 pub const AMOUNTS: usize = 3;
 
 /// Places of a table's words: the numbers, and behind them the floats. A set of seats is the number
@@ -34,28 +34,36 @@ pub mod place {
     pub const BOARD: usize = 18;
     /// Answer: seats that the walk of the last accepted step passed to
     pub const PASSED: usize = 23;
-    /// From here on stands what the Rust's record lacks: nothing yet.
+    /// From here on stands what the Rust's record lacks: the key of the hand, zeros where it has
+    /// none.
     pub const ADDED: usize = 24;
-    pub const TOTAL_POT: usize = 24;
-    pub const BIG_BLIND: usize = 25;
-    pub const SMALL_BLIND: usize = 26;
-    pub const ANTE: usize = 27;
-    pub const ROUND_BET: usize = 28;
-    pub const MIN_RAISE: usize = 29;
+    /// Of the table, below 65536
+    pub const KEY_CODE: usize = 24;
+    /// Below 65536; 0 means no key
+    pub const KEY_YEAR: usize = 25;
+    pub const KEY_HAND: usize = 26;
+    /// From here on no call reads or writes anything. A host keeps 0 there, for later versions.
+    pub const FREE: usize = 27;
+    pub const TOTAL_POT: usize = 32;
+    pub const BIG_BLIND: usize = 33;
+    pub const SMALL_BLIND: usize = 34;
+    pub const ANTE: usize = 35;
+    pub const ROUND_BET: usize = 36;
+    pub const MIN_RAISE: usize = 37;
     /// Answer: what the last accepted step paid
-    pub const PAID: usize = 30;
-    pub const STACKS: usize = 32;
-    pub const STARTING_STACKS: usize = 48;
-    pub const HAND_BETS: usize = 64;
-    pub const WINNINGS: usize = 80;
-    pub const ROUND_BETS: usize = 96;
+    pub const PAID: usize = 38;
+    pub const STACKS: usize = 40;
+    pub const STARTING_STACKS: usize = 56;
+    pub const HAND_BETS: usize = 72;
+    pub const WINNINGS: usize = 88;
+    pub const ROUND_BETS: usize = 104;
 }
 
 /// Answers of a run of bets, where a step's answers stand: the payments added one after another,
 /// and how many bets were taken.
 pub mod run {
     /// Of the floats
-    pub const PAID: usize = 30;
+    pub const PAID: usize = 38;
     /// Of the numbers
     pub const TAKEN: usize = 23;
 }
@@ -83,6 +91,15 @@ pub mod given {
     pub const PLAYER_BET: usize = 14;
     /// What stands at the round's places of floats and numbers before the call
     pub const ROUND_DATA: usize = 15;
+    /// 0: the table has no key
+    pub const KEY: usize = 16;
+    /// Below 65536
+    pub const KEY_CODE: usize = 17;
+    /// Below 65536
+    pub const KEY_YEAR: usize = 18;
+    pub const KEY_HAND: usize = 19;
+    /// From here on nothing is read. A host keeps 0 there, for later versions.
+    pub const FREE: usize = 20;
 }
 
 /// Places of its amounts.

@@ -1,8 +1,9 @@
 //! The kind `scripts`: scripts with what they print. Each case is a script by
-//! itself; those made by hand come first, then those drawn.
+//! itself; those made by hand come first, then those drawn. Those with keys follow, by hand and drawn.
 
 pub mod drawn;
 mod forms;
+mod keys;
 mod limits;
 pub mod player;
 mod pots;
@@ -22,6 +23,12 @@ pub fn write(list: &mut List, draw: &mut Draw, count: u64) -> io::Result<()> {
     }
     for number in 1..=count {
         drawn::case(draw, number).put(list)?;
+    }
+    for case in keys::all() {
+        case.put(list)?;
+    }
+    for number in 1..=count / 5 {
+        drawn::keyed(draw, number).put(list)?;
     }
     Ok(())
 }

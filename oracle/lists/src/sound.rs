@@ -1,8 +1,9 @@
-//! Document 01's conditions for what the Rust must not be asked: there it
-//! panics, loops, or answers on a record that 01 does not accept.
+//! The conditions of documents 01 and 02 for what the Rust must not be asked: there it
+//! panics, loops, or answers on a record that they do not accept.
 
 use rs_poker::arena::RoundData;
 
+use crate::key::Key;
 use crate::table::{MAX_BOARD, MAX_SEATS, SETS, Table, first_seats, place};
 
 /// Whether all seats of a set are below n.
@@ -29,6 +30,7 @@ pub fn record(table: &Table) -> bool {
         && board <= MAX_BOARD
         && (place::BOARD..place::BOARD + board).all(|at| table.get(at) < 52)
         && SETS.iter().all(|&set| within(table.seats(set), n))
+        && Key::of(table).is_good()
 }
 
 fn counters(data: &mut RoundData) -> [&mut u8; 3] {

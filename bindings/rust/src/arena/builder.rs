@@ -2,6 +2,7 @@
 
 use crate::arena::errors::GameStateBuilderError;
 use crate::arena::game_state::GameState;
+use crate::arena::hand_key::HandKey;
 use crate::arena::round::Round;
 use crate::arena::round_data::RoundData;
 use crate::library;
@@ -23,6 +24,7 @@ pub struct GameStateBuilder {
     hands: Option<usize>,
     player_bet: Option<Vec<f32>>,
     round_data: Option<RoundData>,
+    hand_key: Option<HandKey>,
 }
 
 impl GameStateBuilder {
@@ -108,6 +110,12 @@ impl GameStateBuilder {
         self
     }
 
+    /// Which hand it is (added), or none. Year 0 beside a code or a hand is refused by `build`, with 19.
+    pub fn hand_key(mut self, key: HandKey) -> Self {
+        self.hand_key = Some(key);
+        self
+    }
+
     /// The table, if every test is passed.
     pub fn build(self) -> Result<GameState, GameStateBuilderError> {
         library::check();
@@ -153,6 +161,7 @@ impl GameStateBuilder {
     /// What is given, and its number.
     fn given(&self) -> [u32; GIVEN] {
         let cap = self.max_raises_per_round.flatten();
+        let key = self.hand_key.unwrap_or(HandKey::NONE);
         let mut words = [0; GIVEN];
         words[given::STACKS] = self.stacks.is_some().into();
         words[given::BIG_BLIND] = self.big_blind.is_some().into();
@@ -170,6 +179,10 @@ impl GameStateBuilder {
         words[given::HANDS_ARE] = seat(self.hands.unwrap_or(0));
         words[given::PLAYER_BET] = self.player_bet.is_some().into();
         words[given::ROUND_DATA] = self.round_data.is_some().into();
+        words[given::KEY] = self.hand_key.is_some().into();
+        words[given::KEY_CODE] = key.code.into();
+        words[given::KEY_YEAR] = key.year.into();
+        words[given::KEY_HAND] = key.hand;
         words
     }
 }

@@ -73,6 +73,14 @@ refusals! {
 }
 
 refusals! {
+    /// Why a script leads to no table.
+    ScriptError {
+        BadLine = 25,
+        ScriptTooLong = 26,
+    }
+}
+
+refusals! {
     /// Why a set was not made or changed; the set is as it was.
     PlayerBitSetError {
         InvalidPlayerCount = 3,

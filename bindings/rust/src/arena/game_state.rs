@@ -6,6 +6,7 @@ mod steps;
 
 pub use crate::arena::builder::GameStateBuilder;
 pub use crate::arena::errors::GameStateBuilderError;
+pub use crate::arena::hand_key::HandKey;
 pub use crate::arena::round::Round;
 pub use crate::arena::round_data::RoundData;
 pub use crate::words::MAX_PLAYERS;

@@ -1,8 +1,10 @@
 //! Any two arrays at the boundary, sound or not. A refused call must leave them as they are, bit for bit.
 #![allow(dead_code, reason = "no test uses all of it")]
 
+use lists::step::Step;
+use lists::table::Table;
 use peatcloak::arena::GameState;
-use peatcloak::places::{AMOUNTS, FLOATS, GIVEN, NUMBERS, amount, given};
+use peatcloak::places::{AMOUNTS, FLOATS, GIVEN, NUMBERS, amount, float, given, number};
 use peatcloak::sys;
 
 #[derive(Clone)]
@@ -33,12 +35,50 @@ impl Words {
         Words { floats, numbers }
     }
 
+    /// A table of the oracle's.
+    pub fn at(table: &Table) -> Self {
+        Words {
+            floats: std::array::from_fn(|at| table.float(NUMBERS + at)),
+            numbers: std::array::from_fn(|at| table.words[at]),
+        }
+    }
+
+    /// Code, year, hand.
+    pub fn key(&self) -> [u32; 3] {
+        [number::KEY_CODE, number::KEY_YEAR, number::KEY_HAND].map(|at| self.numbers[at])
+    }
+
+    /// All that a table has beside its key.
+    pub fn without_key(&self) -> ([u32; FLOATS], [u32; NUMBERS]) {
+        let (floats, mut numbers) = self.bits();
+        for at in [number::KEY_CODE, number::KEY_YEAR, number::KEY_HAND] {
+            numbers[at] = 0;
+        }
+        (floats, numbers)
+    }
+
     pub fn bits(&self) -> ([u32; FLOATS], [u32; NUMBERS]) {
         (self.floats.map(f32::to_bits), self.numbers)
     }
 
     pub fn do_bet(&mut self, amount: f32, is_forced: bool) -> u32 {
         call!(sys::peatcloak_do_bet, self, amount, is_forced.into())
+    }
+
+    /// A step of the oracle's that changes a table.
+    pub fn take(&mut self, step: &Step) -> u32 {
+        match *step {
+            Step::Advance => self.advance_round(),
+            Step::Complete => self.complete(),
+            Step::Fold => self.fold(),
+            Step::Bet(amount) => self.do_bet(amount, false),
+            Step::Forced(amount) => self.do_bet(amount, true),
+            Step::Call => self.do_bet(self.floats[float::ROUND_BET], false),
+            Step::AllIn => self.do_bet(f32::INFINITY, false),
+            Step::Award(seat, amount) => self.award(seat as u32, amount),
+            Step::Reward(seat) => self.player_reward(seat as u32).0,
+            Step::Query(seat) => self.queries(seat as u32).0,
+        }
     }
 
     pub fn fold(&mut self) -> u32 {
@@ -58,11 +98,16 @@ impl Words {
     }
 
     pub fn settle(&mut self) -> u32 {
+        self.rewards().0
+    }
+
+    /// The refusal of a settlement with equal ranks, and the rewards.
+    pub fn rewards(&mut self) -> (u32, [i32; 16]) {
         let (ranks, mut rewards) = ([0; 16], [7; 16]);
         let refused =
             call!(sys::peatcloak_settle, self, ranks.as_ptr(), 16, rewards.as_mut_ptr(), 16);
         assert!(refused == 0 || rewards == [7; 16], "a refused call has written");
-        refused
+        (refused, rewards)
     }
 
     #[cfg(feature = "parts")]
@@ -118,11 +163,22 @@ impl Words {
 
     /// A build with stacks, a big blind and the round data that stands here.
     pub fn build_with_its_round_data(&mut self, stacks: &[f32], big_blind: f32) -> u32 {
+        self.build(stacks, big_blind, |given| given[given::ROUND_DATA] = 1)
+    }
+
+    /// A build with stacks, a big blind and what else is told.
+    pub fn build(
+        &mut self,
+        stacks: &[f32],
+        big_blind: f32,
+        tell: impl Fn(&mut [u32; GIVEN]),
+    ) -> u32 {
         let (mut amounts, mut given) = ([0.0; AMOUNTS], [0; GIVEN]);
         amounts[amount::BIG_BLIND] = big_blind;
-        for place in [given::STACKS, given::BIG_BLIND, given::ROUND_DATA] {
+        for place in [given::STACKS, given::BIG_BLIND] {
             given[place] = 1;
         }
+        tell(&mut given);
         let nothing = [0];
         call!(
             sys::peatcloak_build,

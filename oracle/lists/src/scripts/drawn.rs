@@ -13,13 +13,28 @@ const BETTING: [Round; 4] = [Round::Preflop, Round::Flop, Round::Turn, Round::Ri
 pub fn case(draw: &mut Draw, number: u64) -> Case {
     let mut script = Script::default();
     for _ in 0..draw.pick(&[1, 1, 1, 2]) {
-        hand(draw, &mut script);
+        hand(draw, &mut script, false);
     }
-    let mut bytes = script.lines.join(&b'\n');
-    if !draw.once_in(10) {
-        bytes.push(b'\n');
+    script.case(draw, format!("drawn {number}"))
+}
+
+/// A script with keys before its hands, in them and after them.
+pub fn keyed(draw: &mut Draw, number: u64) -> Case {
+    let mut script = Script::default();
+    for _ in 0..draw.within(1, 3) {
+        for _ in 0..draw.below(3) {
+            script.add(key(draw));
+            script.add(refused_table(draw));
+        }
+        // The table of the hand must be accepted.
+        script.add(good_key(draw));
+        hand(draw, &mut script, true);
     }
-    Case::new(format!("drawn {number}"), bytes)
+    if draw.once_in(3) {
+        script.add(key(draw));
+        script.add(table(draw));
+    }
+    script.case(draw, format!("drawn {number}, with keys"))
 }
 
 /// The lines so far, and the table that they lead to.
@@ -39,10 +54,19 @@ impl Script {
     fn add_all(&mut self, lines: &str) {
         lines.lines().for_each(|line| self.add(line));
     }
+
+    /// The last line may lack its LF.
+    fn case(self, draw: &mut Draw, what: String) -> Case {
+        let mut bytes = self.lines.join(&b'\n');
+        if !draw.once_in(10) {
+            bytes.push(b'\n');
+        }
+        Case::new(what, bytes)
+    }
 }
 
 /// A table, up to so many lines on it, and what each seat has at the end.
-fn hand(draw: &mut Draw, script: &mut Script) {
+fn hand(draw: &mut Draw, script: &mut Script, is_keyed: bool) {
     if draw.once_in(6) {
         script.add(refused_table(draw));
     }
@@ -50,6 +74,9 @@ fn hand(draw: &mut Draw, script: &mut Script) {
     for _ in 0..draw.within(30, 70) {
         if draw.once_in(24) {
             script.add(stray(draw));
+        }
+        if is_keyed && draw.once_in(12) {
+            script.add(key(draw));
         }
         let state = script.player.table.as_ref().expect("the table above is built");
         if state.round == Round::Complete {
@@ -111,6 +138,25 @@ fn refused_table(draw: &mut Draw) -> String {
         "t 0 1 1",
     ];
     draw.pick(&lines).to_string()
+}
+
+/// A key for the next table: good, bad, or not of the form.
+fn key(draw: &mut Draw) -> String {
+    let not_of_the_form =
+        ["k", "k 3 2026", "k 3 2026 7 1", "k 3 2026 65536", "k 3 2026 07", "K 3 1 7"];
+    match draw.below(8) {
+        0..=1 => format!("k {} 0 {}", draw.below(3), draw.pick(&[0, 1, 65_535])),
+        2 => draw.pick(&not_of_the_form).to_string(),
+        _ => good_key(draw),
+    }
+}
+
+fn good_key(draw: &mut Draw) -> String {
+    if draw.once_in(8) {
+        return "k 0 0 0".to_string();
+    }
+    let year = draw.pick(&[1, 2026, 2027, 65_535]);
+    format!("k {} {year} {}", draw.pick(&[0, 3, 65_535]), draw.pick(&[0, 7, 8, 65_535]))
 }
 
 /// The next line of the hand.

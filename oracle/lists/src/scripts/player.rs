@@ -1,11 +1,12 @@
-//! Plays a script on the Rust's own GameState, as document 01 tells it, and gives
-//! what is printed. Settlement, which the Rust lacks, is dealt chip by chip.
+//! Plays a script on the Rust's own GameState, as documents 01 and 02 tell it, and gives
+//! what is printed. Settlement and keys, which the Rust lacks, are ours.
 
 use rs_poker::arena::{GameState, GameStateBuilder};
 
-use crate::refusals::{self, BAD_LINE, INVALID_PLAYER_COUNT, Refusal, SCRIPT_TOO_LONG};
+use crate::key::Key;
+use crate::refusals::{self, BAD_LINE, BAD_RECORD, INVALID_PLAYER_COUNT, Refusal, SCRIPT_TOO_LONG};
 use crate::scripts::reading::{self, Ask};
-use crate::table::MAX_SEATS;
+use crate::table::{MAX_SEATS, Table};
 use crate::{carry, settlement, step};
 
 pub const MOST_BYTES: usize = 65536;
@@ -20,11 +21,25 @@ pub fn play(script: &[u8]) -> String {
     reading::lines(script).map(|line| player.play_line(line)).collect()
 }
 
-/// The lines played so far, and the table where one stands.
+/// The table that stands at the script's end, with its key.
+pub fn table_at_end(script: &[u8]) -> Result<Table, Refusal> {
+    if script.len() > MOST_BYTES {
+        return Err(SCRIPT_TOO_LONG);
+    }
+    let mut player = Player::default();
+    reading::lines(script).for_each(|line| drop(player.play_line(line)));
+    let mut table = carry::table(player.table.as_ref().ok_or(BAD_LINE)?);
+    player.key.put(&mut table);
+    Ok(table)
+}
+
+/// The lines played so far, the table where one stands, its key, and the key for the next.
 #[derive(Default)]
 pub struct Player {
     lines: usize,
     pub table: Option<GameState>,
+    key: Key,
+    next_key: Key,
 }
 
 impl Player {
@@ -36,14 +51,20 @@ impl Player {
     }
 
     fn obey(&mut self, line: &[u8]) -> Result<(), Refusal> {
-        let ask = reading::read(line).ok_or(BAD_LINE)?;
-        if let Ask::Table { dealer, big_blind, small_blind, ante, stacks } = ask {
-            self.table = Some(build(dealer, [big_blind, small_blind, ante], &stacks)?);
-            return Ok(());
-        }
+        let ask = match reading::read(line).ok_or(BAD_LINE)? {
+            Ask::Table { dealer, big_blind, small_blind, ante, stacks } => {
+                let state = build(dealer, [big_blind, small_blind, ante], &stacks)?;
+                return self.open(state);
+            }
+            Ask::Key(key) => {
+                self.next_key = key;
+                return Ok(());
+            }
+            other => other,
+        };
         let state = self.table.as_mut().ok_or(BAD_LINE)?;
         match ask {
-            Ask::Table { .. } => unreachable!("a table was made above"),
+            Ask::Table { .. } | Ask::Key(_) => unreachable!("these were taken above"),
             Ask::Advance => state.advance_round(),
             Ask::Fold => state.fold(),
             Ask::Complete => state.complete(),
@@ -52,6 +73,16 @@ impl Player {
             Ask::Settle(ranks) if ranks.len() != state.num_players => return Err(BAD_LINE),
             Ask::Settle(ranks) => *state = settle(state, &ranks)?,
         }
+        Ok(())
+    }
+
+    /// The key is checked last, and used up by the table that takes it.
+    fn open(&mut self, state: GameState) -> Result<(), Refusal> {
+        if !self.next_key.is_good() {
+            return Err(BAD_RECORD);
+        }
+        self.table = Some(state);
+        self.key = std::mem::take(&mut self.next_key);
         Ok(())
     }
 }
@@ -89,7 +120,8 @@ fn amount(x: f32) -> String {
 
 #[cfg(test)]
 mod tests {
-    use super::{amount, play};
+    use super::{amount, play, table_at_end};
+    use crate::key::Key;
 
     #[test]
     fn the_worked_script_of_document_01() {
@@ -98,6 +130,16 @@ mod tests {
                        6 0 3 0 15 10\n7 16 3 0 15 10\n8 17 3 0 15 10\n9 0 3 1 30 20\n\
                        10 0 3 0 30 20\n11 0 3 0 30 20\n";
         assert_eq!(play(script.as_bytes()), printed);
+    }
+
+    #[test]
+    fn a_table_takes_the_key_that_stands() {
+        let t = "t 0 10 5 0 9 9\n";
+        let key = |script: &str| Key::of(&table_at_end(script.as_bytes()).expect("a table"));
+        assert_eq!(key(&format!("k 3 2026 7\n{t}n\nk 3 2026 8\n")), Key::new(3, 2026, 7));
+        assert_eq!(key(&format!("k 3 2026 7\nt 0 0 5 0 9 9\n{t}")), Key::new(3, 2026, 7));
+        assert_eq!(key(&format!("k 3 2026 7\n{t}{t}")), Key::NONE);
+        assert_eq!(play(format!("k 5 0 0\n{t}").as_bytes()), "1 0 - - - -\n2 19 - - - -\n");
     }
 
     #[test]

@@ -1,5 +1,8 @@
 //! A line of a script, by the words of document 01: "a letter, then numbers, one
-//! space before each; a number is 0 to 65,535 without leading zeros".
+//! space before each; a number is 0 to 65,535 without leading zeros". The line `k` is
+//! document 02's.
+
+use crate::key::Key;
 
 /// What a line asks for. Whether the count of ranks fits is for the table to say.
 #[derive(Debug, PartialEq)]
@@ -11,6 +14,7 @@ pub enum Ask {
     Forced(u16),
     Complete,
     Settle(Vec<u16>),
+    Key(Key),
 }
 
 /// The lines of a script: each ends with LF, and the last may lack it.
@@ -38,6 +42,7 @@ pub fn read(line: &[u8]) -> Option<Ask> {
         (b'p', [amount]) => Some(Ask::Forced(*amount)),
         (b'x', []) => Some(Ask::Complete),
         (b'w', _) => Some(Ask::Settle(numbers)),
+        (b'k', [code, year, hand]) => Some(Ask::Key(Key::new(*code, *year, (*hand).into()))),
         _ => None,
     }
 }
@@ -65,7 +70,7 @@ fn number(digits: &[u8]) -> Option<u16> {
 
 #[cfg(test)]
 mod tests {
-    use super::{Ask, lines, read};
+    use super::{Ask, Key, lines, read};
 
     #[test]
     fn a_last_line_may_lack_its_end() {
@@ -82,6 +87,15 @@ mod tests {
         for bad in
             ["", "b", "b ", "b  1", "b 1 ", " b 1", "b 01", "b 65536", "b +1", "b -0", "n 0", "N"]
         {
+            assert_eq!(read(bad.as_bytes()), None, "{bad:?}");
+        }
+    }
+
+    #[test]
+    fn a_key_has_three_numbers_and_may_be_bad() {
+        assert_eq!(read(b"k 3 2026 7"), Some(Ask::Key(Key::new(3, 2026, 7))));
+        assert_eq!(read(b"k 5 0 0"), Some(Ask::Key(Key::new(5, 0, 0))));
+        for bad in ["k", "k 3", "k 3 2026", "k 3 2026 7 0", "k 3 2026 65536", "K 3 2026 7"] {
             assert_eq!(read(bad.as_bytes()), None, "{bad:?}");
         }
     }

@@ -1,7 +1,9 @@
-//! A case as it stands in the list: what it shows, its script, what is printed.
+//! A case as it stands in the list: what it shows, its script, what is printed, and the key of the table at its end
+//! where that has one.
 
 use std::io;
 
+use crate::key::Key;
 use crate::list::List;
 use crate::scripts::player;
 
@@ -26,6 +28,10 @@ impl Case {
         }
         for line in player::play(&self.script).lines() {
             list.put_text(&marked('<', line.as_bytes()))?;
+        }
+        let key = player::table_at_end(&self.script).map_or(Key::NONE, |table| Key::of(&table));
+        if key != Key::NONE {
+            list.put_text(&format!("@ {key}"))?;
         }
         list.put_text("")
     }

@@ -1,6 +1,6 @@
 //! The Rust's fields, as calls: what stands in the two arrays.
 
-use super::{GameState, Round, RoundData};
+use super::{GameState, HandKey, Round, RoundData};
 use crate::arena::errors::GameStateError;
 use crate::arena::round::ROUNDS;
 use crate::core::PlayerBitSet;
@@ -105,6 +105,14 @@ impl GameState {
     pub fn max_raises_per_round(&self) -> Option<u8> {
         let is_set = self.words.numbers[number::HAS_CAP] != 0;
         is_set.then_some(self.words.numbers[number::CAP] as u8)
+    }
+
+    /// Which hand it is (added), if it was built with a key. Every step leaves it as it is.
+    pub fn hand_key(&self) -> Option<HandKey> {
+        let [code, year] =
+            [number::KEY_CODE, number::KEY_YEAR].map(|at| self.words.numbers[at] as u16);
+        let hand = self.words.numbers[number::KEY_HAND];
+        (year != 0).then_some(HandKey { code, year, hand })
     }
 
     /// Marks the big blind as posted, or not.

@@ -3,7 +3,6 @@ use mathlib.Core.Path.{ap, _∙_}
 use borrow.Author.Needs.{needs}
 use Rattle.builder.specs.Setters.{builderOf}
 use Rattle.layout.specs.declared.standing.DataStanding.{DataStanding}
-use Rattle.layout.specs.declared.standing.AddedStanding.{AddedStanding}
 use Rattle.peatcloak.specs.Building.{amountGiven, numberGiven, amountsGiven, boardGiven}
 use Rattle.peatcloak.proofs.building.builder_of.Statement.{statement}
 use Rattle.peatcloak.proofs.building.builder_of.Tie as tie
@@ -25,8 +24,8 @@ returns c =
     let at-float-at = at-flag-at5 .before in
     let at-flag-at4 = at-float-at .before in
     let at-round-at = at-flag-at4 .before in
-    let at-read-added = at-round-at .before .before in
-    let at-read-data = at-read-added .before .before in
+    let at-added = at-round-at .before in
+    let at-read-data = at-added .before .before in
     let at-board-of = at-read-data .before in
     let at-flag-at3 = at-board-of .before in
     let at-amounts-of2 = at-flag-at3 .before in
@@ -50,7 +49,7 @@ returns c =
     (numberGiven (at-flag-at11 .flag-at11 .ensures i) (at-number-at2 .number-at2 .ensures i))
     ((at-amounts-of2 .amounts-of2 .ensures ∙ λ j. amountsGiven (at-flag-at2 .flag-at2 .ensures j) (a .player-bet .now)) i)
     (record { given = c .flag-at12 .ensures i; value = ap (λ (s : DataStanding). s .«data») (at-read-data .read-data .ensures) i })
-    (ap (λ (s : AddedStanding). s .added) (at-read-added .read-added .ensures) i)
+    (at-added .of .ensures i)
 
 pub builder-of-spec : {M : Type 1} → statement M
 builder-of-spec =
