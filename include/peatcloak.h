@@ -187,7 +187,8 @@ uint32_t peatcloak_queries(const float *floats, size_t floats_len, const uint32_
  * the round's places of floats and numbers before the call; every one of the numbers must then be in its range. The key
  * is what stands under PEATCLOAK_GIVEN_KEY_CODE, _YEAR and _HAND where PEATCLOAK_GIVEN_KEY is 1, and none where it is 0,
  * whatever the numbers hold before the call: the next hand may be built over the last. 19 for year 0 beside a code or a
- * hand, after every other refusal. */
+ * hand, after every other refusal. No place from PEATCLOAK_FREE on is written: a host sets the numbers to 0 before its
+ * first build. */
 uint32_t peatcloak_build(float *floats, size_t floats_len, uint32_t *numbers, size_t numbers_len, const float *stacks,
                          size_t stacks_len, const float *player_bet, size_t player_bet_len, const uint8_t *board,
                          size_t board_len, const float *amounts, size_t amounts_len, const uint32_t *given,
@@ -198,12 +199,13 @@ uint32_t peatcloak_build(float *floats, size_t floats_len, uint32_t *numbers, si
 uint32_t peatcloak_settle(float *floats, size_t floats_len, uint32_t *numbers, size_t numbers_len,
                           const uint16_t *ranks, size_t ranks_len, int32_t *rewards, size_t rewards_len);
 
-/* What document 01's script prints from its start, as many whole lines as out is sure to hold (72 bytes for each);
- * answers the bytes written. */
+/* What a script of documents 01 and 02 prints from its start, as many whole lines as out is sure to hold (72 bytes for
+ * each); answers the bytes written. */
 size_t peatcloak_play(const uint8_t *script, size_t script_len, uint8_t *out, size_t out_len);
 
-/* The table that stands at a script's end, laid as a build lays one, with the key that it carries. 19 where a list is too
- * short, then 26 for a script of more than 65,536 bytes, then 25 where no table stands at its end. */
+/* The table that stands at a script's end, laid as a build lays one, with the key that it carries (since 2.2.0). A line
+ * that is refused is passed over, as in peatcloak_play. 19 where a list is too short, then 26 for a script of more than
+ * 65,536 bytes, then 25 where no table stands at its end. */
 uint32_t peatcloak_play_table(float *floats, size_t floats_len, uint32_t *numbers, size_t numbers_len,
                               const uint8_t *script, size_t script_len);
 

@@ -1,4 +1,4 @@
-//! Document 01's script, played.
+//! The script of documents 01 and 02, played.
 
 use crate::arena::GameState;
 use crate::arena::errors::ScriptError;
@@ -21,7 +21,8 @@ pub fn play(script: &[u8]) -> Vec<u8> {
     out
 }
 
-/// The table that a script leads to, with its key. `BadLine` where none stands at its end.
+/// The table that stands at a script's end, with its key. A line that is refused is passed over, as in `play`. `BadLine`
+/// where no table stands at the end, `ScriptTooLong` above 65,536 bytes.
 pub fn play_table(script: &[u8]) -> Result<GameState, ScriptError> {
     library::check();
     let mut words = Words::ZEROS;

@@ -5,8 +5,8 @@ use crate::places::{FLOATS, NUMBERS, float, number};
 /// A table has at most so many seats.
 pub const MAX_PLAYERS: usize = 16;
 
-/// What a step gives beside the table is not a part of it, nor are the words that no call reads: two tables are equal
-/// without them.
+/// What a step gives beside the table is not a part of it, nor are the numbers from FREE on: two tables are equal without
+/// them.
 #[derive(Clone, Debug)]
 pub struct Words {
     pub floats: [f32; FLOATS],

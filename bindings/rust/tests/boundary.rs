@@ -6,12 +6,12 @@ mod words;
 
 use peatcloak::arena::GameStateBuilder;
 use peatcloak::places::number::{
-    BB_POSTED, BOARD, BOARD_LENGTH, CAP, DEALER_IDX, FORCED_BET_COUNT, HAS_CAP, KEY_CODE, KEY_HAND,
-    KEY_YEAR, NEEDS_ACTION, NUM_PLAYERS, PLAYER_ACTIVE, PLAYER_ALL_IN, ROUND, ROUND_BEFORE,
-    ROUND_LENGTH, SB_POSTED, STARTING_PLAYER_ACTIVE, TO_ACT_IDX, TOTAL_BET_COUNT,
+    ADDED, BB_POSTED, BOARD, BOARD_LENGTH, CAP, DEALER_IDX, FORCED_BET_COUNT, HAS_CAP, KEY_CODE,
+    KEY_HAND, KEY_YEAR, NEEDS_ACTION, NUM_PLAYERS, PLAYER_ACTIVE, PLAYER_ALL_IN, ROUND,
+    ROUND_BEFORE, ROUND_LENGTH, SB_POSTED, STARTING_PLAYER_ACTIVE, TO_ACT_IDX, TOTAL_BET_COUNT,
     TOTAL_RAISE_COUNT,
 };
-use peatcloak::places::{FLOATS, NUMBERS};
+use peatcloak::places::{AMOUNTS, FLOATS, GIVEN, NUMBERS, given};
 use peatcloak::sys;
 use words::Words;
 
@@ -132,8 +132,10 @@ fn a_step_on_a_table_that_is_not_sound_is_19() {
 #[test]
 fn a_list_that_is_too_short_is_19() {
     let Words { mut floats, mut numbers } = table();
+    // A host of layout 1 had no number behind ADDED.
+    let old = (FLOATS, ADDED);
     let short = [(FLOATS - 1, NUMBERS), (FLOATS, NUMBERS - 1), (0, 0), (0, NUMBERS), (FLOATS, 0)];
-    for (floats_len, numbers_len) in short {
+    for (floats_len, numbers_len) in short.into_iter().chain([old]) {
         let (f, n) = (floats.as_mut_ptr(), numbers.as_mut_ptr());
         // SAFETY: the arrays are longer than that.
         unsafe {
@@ -142,9 +144,11 @@ fn a_list_that_is_too_short_is_19() {
             assert_eq!(sys::peatcloak_advance_round(f, floats_len, n, numbers_len), 19);
             assert_eq!(sys::peatcloak_complete(f, floats_len, n, numbers_len), 19);
             assert_eq!(sys::peatcloak_award(f, floats_len, n, numbers_len, 0, 1.0), 19);
-            let script = b"t 0 10 5 0 9 9";
-            let (s, s_len) = (script.as_ptr(), script.len());
-            assert_eq!(sys::peatcloak_play_table(f, floats_len, n, numbers_len, s, s_len), 19);
+            // 19 comes before a script that is too long, or leads to no table.
+            for script in [b"t 0 10 5 0 9 9".as_slice(), b"", &[b'n'; 65_537]] {
+                let (s, s_len) = (script.as_ptr(), script.len());
+                assert_eq!(sys::peatcloak_play_table(f, floats_len, n, numbers_len, s, s_len), 19);
+            }
             assert_eq!(sys::peatcloak_round_new(f, floats_len, n, numbers_len, 2, 1.0, 3, 0), 19);
             assert_eq!(sys::peatcloak_round_advance_action(f, floats_len, n, numbers_len), 19);
             assert_eq!(sys::peatcloak_round_do_bet(f, floats_len, n, numbers_len, 1.0, 0), 19);
@@ -164,6 +168,22 @@ fn a_list_that_is_too_short_is_19() {
     }
     let before = table().bits();
     assert_eq!(Words { floats, numbers }.bits(), before);
+}
+
+#[test]
+fn a_build_that_is_told_too_little_is_19() {
+    let (amounts, mut told) = ([10.0; AMOUNTS], [0; GIVEN]);
+    told[given::STACKS] = 1;
+    told[given::BIG_BLIND] = 1;
+    let build = |amounts: &[f32], told: &[u32]| table().build_told(&[100.0, 100.0], amounts, told);
+    assert_eq!(build(&amounts, &told), 0);
+    // A host of layout 1 had nothing behind ROUND_DATA.
+    for short in [0, given::ROUND_DATA + 1, given::FREE, GIVEN - 1] {
+        assert_eq!(build(&amounts, &told[..short]), 19);
+    }
+    for short in [0, AMOUNTS - 1] {
+        assert_eq!(build(&amounts[..short], &told), 19);
+    }
 }
 
 #[test]

@@ -4,8 +4,9 @@ mod common;
 #[path = "common/words.rs"]
 mod words;
 
-use common::assert_same;
+use common::{assert_same, ours};
 use lists::draw::Draw;
+use lists::key::Key;
 use lists::scripts::{drawn, player};
 use lists::{key, play, tables};
 use peatcloak::arena::action::AgentAction;
@@ -31,6 +32,11 @@ fn a_table_has_the_key_that_it_was_built_with() {
     assert_eq!(told_twice.build().expect("a table").hand_key(), Some(KEY));
     for none in [builder(), builder().hand_key(HandKey::NONE)] {
         assert_eq!(none.build().expect("a table").hand_key(), None);
+    }
+    // Tables that differ in the key alone are not equal.
+    let other = HandKey { year: 2027, ..KEY };
+    for other in [builder(), builder().hand_key(other)] {
+        assert_ne!(builder().hand_key(KEY).build(), other.build());
     }
 }
 
@@ -108,7 +114,7 @@ fn nothing_hangs_on_a_good_key() {
         let mut other = one.clone();
         key::good(&mut draw).put(&mut one);
         key::good(&mut draw).put(&mut other);
-        let (mut one, mut other) = (Words::at(&one), Words::at(&other));
+        let (mut one, mut other) = (Words::of(&ours(&one)), Words::of(&ours(&other)));
         let keys = [one.key(), other.key()];
         for _ in 0..draw.within(1, 20) {
             let (amount, seat) = (lists::amounts::any(&mut draw), draw.below(17) as u32);
@@ -127,7 +133,8 @@ fn nothing_hangs_on_a_good_key() {
             assert_eq!([one.key(), other.key()], keys);
             let asked = |words: &Words| {
                 let (refused, amounts, answers) = words.queries(seat);
-                (refused, amounts.map(f32::to_bits), answers, words.player_reward(seat).0)
+                let (not_told, reward) = words.player_reward(seat);
+                (refused, amounts.map(f32::to_bits), answers, not_told, reward.to_bits())
             };
             assert_eq!(asked(&one), asked(&other));
         }
@@ -168,13 +175,15 @@ fn free_words_are_neither_read_nor_written() {
     for _ in 0..500 {
         let mut table = tables::new_game(&mut draw);
         // The same table without them goes beside it.
-        let (mut words, mut plain) = (Words::at(&table), Words::at(&table));
+        let mut plain = Words::of(&ours(&table));
+        let mut words = plain.clone();
         let free: Vec<u32> = (number::FREE..NUMBERS).map(|_| draw.bits() as u32).collect();
         words.numbers[number::FREE..].copy_from_slice(&free);
         for _ in 0..draw.within(1, 30) {
             let step = play::in_turn(&mut draw, &table);
             assert_eq!(words.take(&step), plain.take(&step));
             assert_eq!(words.numbers[..number::FREE], plain.numbers[..number::FREE]);
+            assert_eq!(words.bits().0, plain.bits().0);
             assert_eq!(words.numbers[number::FREE..], free);
             step.take(&mut table);
         }
@@ -211,7 +220,7 @@ fn a_script_leads_to_a_table_with_the_key_that_stood() {
 #[test]
 fn scripts_lead_to_the_tables_of_the_oracle() {
     let mut draw = Draw::new(6);
-    let mut refused = 0;
+    let [mut refused, mut with_key] = [0, 0];
     for number in 1..=300 {
         let script = drawn::keyed(&mut draw, number).script;
         // The first lines, where no table may stand yet, and all.
@@ -221,6 +230,7 @@ fn scripts_lead_to_the_tables_of_the_oracle() {
             match player::table_at_end(&script) {
                 Ok(table) => {
                     assert_same(&play_table(&script).expect("a table"), &table, "at the end");
+                    with_key += usize::from(Key::of(&table) != Key::NONE);
                 }
                 Err(number) => {
                     assert_eq!(play_table(&script).unwrap_err().number(), number);
@@ -229,5 +239,6 @@ fn scripts_lead_to_the_tables_of_the_oracle() {
             }
         }
     }
-    assert!(refused > 300);
+    // Of no line and of one 300 each are refused, whatever is drawn.
+    assert!(refused > 650 && with_key > 300, "{refused} refused, {with_key} with a key");
 }

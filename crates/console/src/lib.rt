@@ -1,4 +1,4 @@
-// Document 01, "Script program": a script played on a table, line by line, and what is printed for it.
+// Documents 01 and 02, the script program: a script played on a table, line by line, and what is printed for it.
 pub mod act;
 pub mod ending;
 mod opening;

@@ -1,5 +1,5 @@
 -- What a build is told in `given`. A table that is built has the key that is told there, and none where none is told (`built-key`); and from GIVEN-FREE on no
--- word is read: lists that agree below it build the same (`build-unread`). Assumes nothing.
+-- word is read: lists of one length that agree below it build the same (`build-unread`). Assumes nothing.
 use Prim.Native.Nat.{ℕ, _<_, _%_}
 use native.Mathlib.Omega.{arith}
 use mathlib.Core.Path.{_≡_}

@@ -278,23 +278,6 @@ fn make_data(line: &[u8], m: Making) -> Making {
     }
 }
 
-// A key stands last, and only where one is given.
-fn make_key(line: &[u8], m: Making) -> Making {
-    let mark = reading::read_mark(line, m.next);
-    let b = m.builder;
-    if mark.byte == b'K' {
-        let k = key_words::read_key(line, mark.next);
-        return Making {
-            builder: b.hand_key(k.value),
-            next: k.next,
-        };
-    }
-    Making {
-        builder: b,
-        next: m.next,
-    }
-}
-
 fn read_builder(line: &[u8], at: usize) -> Making {
     let none = Making {
         builder: GameStateBuilder::new(),
@@ -310,8 +293,7 @@ fn read_builder(line: &[u8], at: usize) -> Making {
     let board = make_board(line, round);
     let hands = make_number(line, board, b'H');
     let bets = make_amounts(line, hands, b'P');
-    let data = make_data(line, bets);
-    make_key(line, data)
+    make_data(line, bets)
 }
 
 // A table that is built has the key that was given, a refused build none.
@@ -336,12 +318,23 @@ fn told_step(line: &[u8], at: usize, key: HandKey, step: BuildStep, table: &mut 
     changes::agree(line, at, 0, told, &ours, false, table)
 }
 
+// A key stands last, and only where one is given. The line says which key the table must have, not the builder that was told it.
+fn ask_builder(line: &[u8], at: usize, table: &mut Words) -> Told {
+    let m = read_builder(line, at);
+    let b = m.builder;
+    let mark = reading::read_mark(line, m.next);
+    if mark.byte == b'K' {
+        let k = key_words::read_key(line, mark.next);
+        let key = k.value;
+        let keyed = b.hand_key(key);
+        return told_step(line, k.next, key, keyed.build(), table);
+    }
+    told_step(line, m.next, keys::NONE, b.build(), table)
+}
+
 pub fn ask(letter: u8, line: &[u8], at: usize, table: &mut Words) -> Told {
     if letter == b'b' {
-        let m = read_builder(line, at);
-        let b = m.builder;
-        let given = b.added;
-        return told_step(line, m.next, given.key, b.build(), table);
+        return ask_builder(line, at, table);
     }
     agreeing::no_match()
 }

@@ -17,6 +17,7 @@ use Rattle.refusals.specs.Rows.{Row, row, giveIf, judge, answer}
 use Rattle.refusals.proofs.Rows.{answer-of}
 use Rattle.keys.specs.declared.HandKey.{HandKey}
 use Rattle.keys.specs.Keys.{isGood}
+use Rattle.seats.specs.Bits.{countTo}
 use Rattle.rounds.specs.declared.AmountAnswer.the-variants.{Is, Unknown}
 use Rattle.table.specs.declared.GameState.{GameState}
 use Rattle.table.specs.declared.AgentAction.{AgentAction}
@@ -27,6 +28,7 @@ use Rattle.table.specs.Added.{addedOf, goodAdded}
 use Rattle.table.specs.Answers.{done, refused, notPaid, stepBy, soundRows}
 use Rattle.table.specs.Choice.{choiceOf, asBet}
 use Rattle.table.specs.Pay.{payerIn, paysOf, paidStep, verdictRows, betRows, betOf, foldedStep, foldOf, awarded, seatRows, awardOf, rewardOf}
+use Rattle.table.specs.Queries.{atSeat, isCapped, isComplete, roundBetAt}
 use Rattle.table.specs.Rounds.{isRound, advancedStep, advanceOf, completedStep, completeOf}
 use Rattle.table.specs.Sound.{soundFrame, soundOf}
 use Rattle.table.specs.With.{tableOf}
@@ -81,6 +83,27 @@ stepRekeyed k s = record { answer = s .answer; table = rekeyed k (s .table) }
 
 abbrev pub betRekeyed : HandKey → BetStep → BetStep
 betRekeyed k s = record { answer = s .answer; table = rekeyed k (s .table) }
+
+-- ---- what a table is asked, each by the definition that its call promises: no question looks at the key, be it good or bad
+abbrev pub numbersAsked : GameState → List ℕ
+numbersAsked t = countTo 16 (t .«player_active» .set) ∷ countTo 16 (t .«player_all_in» .set) ∷ countTo 16 (t .«round_data» .«needs_action» .set) ∷ t .«round_data» .«to_act_idx» ∷ []
+
+abbrev pub testsAsked : GameState → List Bool
+testsAsked t = isCapped t ∷ isComplete t ∷ []
+
+abbrev pub amountsAsked : GameState → ℕ → List Float
+amountsAsked t i =
+    let seat = t .«round_data» .«to_act_idx» in
+    atSeat (t .«num_players») (t .stacks) seat
+    ∷ atSeat (t .«num_players») (t .«starting_stacks») seat
+    ∷ roundBetAt t seat
+    ∷ t .«round_data» .bet
+    ∷ roundBetAt t i
+    ∷ t .«round_data» .«min_raise»
+    ∷ []
+
+pub questions-apart : (t : GameState) (k : HandKey) (i : ℕ) → (numbersAsked (rekeyed k t) ≡ numbersAsked t) × ((testsAsked (rekeyed k t) ≡ testsAsked t) × (amountsAsked (rekeyed k t) i ≡ amountsAsked t i))
+questions-apart t k i = (refl, (refl, refl))
 
 -- what is done to each answer of a verdict, or to either of two, is done to the one that is given
 pub given : {A B : Type 0} (f : A → B) (a : A) (g : Refusal → A) (v : Verdict) → answer (f a) (λ r. f (g r)) v ≡ f (answer a g v)

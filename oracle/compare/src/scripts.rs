@@ -63,8 +63,9 @@ fn same_end(draw: &mut Draw, script: &[u8], tally: &mut Tally) -> Result<(), Box
     if is_same {
         return Ok(());
     }
-    let script = String::from_utf8_lossy(script);
-    let mut told = format!("script\n{script}\nat its end: ours refused {refused}\n");
+    let text = String::from_utf8_lossy(script);
+    let (count, text) = (script.len(), text.trim_end());
+    let mut told = format!("script of {count} bytes\n{text}\nat its end: ours refused {refused}\n");
     match &expected {
         Err(number) => told += &format!("Rust  refused {number}\n"),
         Ok(table) => tell_places(&mut told, &got, table, &[]),

@@ -66,7 +66,7 @@ impl Line {
 
 /// A place as lists tell it. They have what the Rust's record has: the floats follow right behind its
 /// numbers, however many are added to those.
-fn listed(at: usize) -> Option<usize> {
+pub fn listed(at: usize) -> Option<usize> {
     match at {
         NUMBERS.. => Some(place::ADDED + at - NUMBERS),
         _ => (at < place::ADDED).then_some(at),

@@ -1,5 +1,4 @@
 //! A table of ours beside the oracle's words.
-#![allow(dead_code, reason = "no test uses all of it")]
 
 use lists::places::NUMBERS;
 use lists::table::{Table, WORDS, place};

@@ -2,7 +2,6 @@
 #![allow(dead_code, reason = "no test uses all of it")]
 
 use lists::step::Step;
-use lists::table::Table;
 use peatcloak::arena::GameState;
 use peatcloak::places::{AMOUNTS, FLOATS, GIVEN, NUMBERS, amount, float, given, number};
 use peatcloak::sys;
@@ -35,14 +34,6 @@ impl Words {
         Words { floats, numbers }
     }
 
-    /// A table of the oracle's.
-    pub fn at(table: &Table) -> Self {
-        Words {
-            floats: std::array::from_fn(|at| table.float(NUMBERS + at)),
-            numbers: std::array::from_fn(|at| table.words[at]),
-        }
-    }
-
     /// Code, year, hand.
     pub fn key(&self) -> [u32; 3] {
         [number::KEY_CODE, number::KEY_YEAR, number::KEY_HAND].map(|at| self.numbers[at])
@@ -65,7 +56,7 @@ impl Words {
         call!(sys::peatcloak_do_bet, self, amount, is_forced.into())
     }
 
-    /// A step of the oracle's that changes a table.
+    /// A step of the oracle's, and what it is refused with.
     pub fn take(&mut self, step: &Step) -> u32 {
         match *step {
             Step::Advance => self.advance_round(),
@@ -179,6 +170,11 @@ impl Words {
             given[place] = 1;
         }
         tell(&mut given);
+        self.build_told(stacks, &amounts, &given)
+    }
+
+    /// A build with lists of amounts and of what is given of any length.
+    pub fn build_told(&mut self, stacks: &[f32], amounts: &[f32], given: &[u32]) -> u32 {
         let nothing = [0];
         call!(
             sys::peatcloak_build,

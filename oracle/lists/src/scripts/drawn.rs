@@ -26,15 +26,28 @@ pub fn keyed(draw: &mut Draw, number: u64) -> Case {
             script.add(key(draw));
             script.add(refused_table(draw));
         }
-        // The table of the hand must be accepted.
-        script.add(good_key(draw));
+        mend_key(draw, &mut script);
         hand(draw, &mut script, true);
     }
     if draw.once_in(3) {
         script.add(key(draw));
-        script.add(table(draw));
+        for _ in 0..draw.within(1, 2) {
+            script.add(table(draw));
+        }
     }
     script.case(draw, format!("drawn {number}, with keys"))
+}
+
+/// The table of the next hand must be accepted: a bad key, on which a table is 19, gives way to a good one. Else what
+/// stands may be taken: a key typed during the hand before, or none.
+fn mend_key(draw: &mut Draw, script: &mut Script) {
+    let is_bad = !script.player.next_key_is_good();
+    if is_bad && draw.once_in(2) {
+        script.add(table(draw));
+    }
+    if is_bad || draw.once_in(2) {
+        script.add(good_key(draw));
+    }
 }
 
 /// The lines so far, and the table that they lead to.

@@ -4,6 +4,9 @@
 use crate::scripts::written::Case;
 
 const TABLE: &str = "t 0 10 5 0 100 100";
+/// 25, 3, 5, 9, 4.
+const REFUSED: [&str; 5] =
+    ["t 0 10 5", "t 0 10 5 0 9", "t 0 0 5 0 9 9", "t 0 10 5 0 0 9", "t 2 10 5 0 9 9"];
 const HAND: [&str; 10] = [TABLE, "n", "n", "n", "p 5", "p 10", "b 20", "f", "x", "w 0 0"];
 
 /// Lines, each with LF.
@@ -67,12 +70,11 @@ fn taken() -> Vec<Case> {
 
 /// A refused table uses nothing up, whatever its number is.
 fn kept() -> Vec<Case> {
-    let refused = ["t 0 10 5", "t 0 10 5 0 9", "t 0 0 5 0 9 9", "t 0 10 5 0 0 9", "t 2 10 5 0 9 9"];
-    let mut cases: Vec<Case> = refused
+    let mut cases: Vec<Case> = REFUSED
         .iter()
         .map(|line| case(&format!("refused, the key stands: {line}"), &["k 3 2026 7", line, TABLE]))
         .collect();
-    let all = [&["k 3 2026 7"][..], &refused, &[TABLE]].concat();
+    let all = [&["k 3 2026 7"][..], &REFUSED, &[TABLE]].concat();
     cases.push(case("refused one after the other, the key stands", &all));
     cases
 }
@@ -86,15 +88,7 @@ fn bad_keys() -> Vec<Case> {
     cases.extend([
         case(
             "19 comes last: 25, 3, 5, 9, 4 before it",
-            &[
-                "k 5 0 0",
-                "t 0 10 5",
-                "t 0 10 5 0 9",
-                "t 0 0 5 0 9 9",
-                "t 0 10 5 0 0 9",
-                "t 2 10 5 0 9 9",
-                TABLE,
-            ],
+            &[&["k 5 0 0"][..], &REFUSED, &[TABLE]].concat(),
         ),
         case(
             "19 keeps the table that stands, and its key",

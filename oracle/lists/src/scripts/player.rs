@@ -76,6 +76,10 @@ impl Player {
         Ok(())
     }
 
+    pub fn next_key_is_good(&self) -> bool {
+        self.next_key.is_good()
+    }
+
     /// The key is checked last, and used up by the table that takes it.
     fn open(&mut self, state: GameState) -> Result<(), Refusal> {
         if !self.next_key.is_good() {

@@ -1,5 +1,5 @@
 //! Each refusal that a script can reach, at both sides where it has two, and in
-//! document 01's order. 25 is in `forms`, 26 in `limits`.
+//! document 01's order. 25 is in `forms`, 26 in `limits`, 19 in `keys`.
 
 use crate::scripts::written::Case;
 
