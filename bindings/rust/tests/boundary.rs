@@ -132,7 +132,7 @@ fn a_step_on_a_table_that_is_not_sound_is_19() {
 #[test]
 fn a_list_that_is_too_short_is_19() {
     let Words { mut floats, mut numbers } = table();
-    // A host of layout 1 had no number behind ADDED.
+    // A host of layout 1 had no number from ADDED on.
     let old = (FLOATS, ADDED);
     let short = [(FLOATS - 1, NUMBERS), (FLOATS, NUMBERS - 1), (0, 0), (0, NUMBERS), (FLOATS, 0)];
     for (floats_len, numbers_len) in short.into_iter().chain([old]) {
