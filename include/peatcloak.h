@@ -9,6 +9,9 @@
  * A table may have the key of its hand: table code, year, hand number (since 2.2.0). A build takes it, and every call on
  * the table leaves it as it is. Nothing else hangs on it, but that a table with year 0 and a code or a hand is 19.
  *
+ * A hand that has a key can be kept on a card, as blocks of bytes, and read back (since 2.3.0): see "The hand journal"
+ * below.
+ *
  * A table function answers 0, or document 01's refusal number; then nothing at all is written. 19 is also given where a
  * list is too short or a word is out of the range of what it stands for. */
 #ifndef PEATCLOAK_H
@@ -26,8 +29,8 @@ extern "C" {
 
 /* ---- Written by .ci/layout from crates/layout/src/places.rt */
 
-/* The library's version: 20200 is 2.2.0. The layout's goes up when a place moves or is added. */
-#define PEATCLOAK_VERSION 20200
+/* The library's version: 20300 is 2.3.0. The layout's goes up when a place moves or is added. */
+#define PEATCLOAK_VERSION 20300
 #define PEATCLOAK_LAYOUT 2
 
 /* How many places each list has. */
@@ -118,7 +121,7 @@ enum peatcloak_amount {
 
 /* ---- So far written by .ci/layout from crates/layout/src/places.rt */
 
-/* Document 01's refusal numbers. */
+/* The refusal numbers of documents 01 and 02. */
 enum peatcloak_refusal {
     PEATCLOAK_MISSING_STACKS = 1,
     PEATCLOAK_MISSING_BIG_BLIND = 2,
@@ -145,7 +148,9 @@ enum peatcloak_refusal {
     PEATCLOAK_NOT_WHOLE_CHIPS = 23,
     PEATCLOAK_ALREADY_PAID = 24,
     PEATCLOAK_BAD_LINE = 25,
-    PEATCLOAK_SCRIPT_TOO_LONG = 26
+    PEATCLOAK_SCRIPT_TOO_LONG = 26,
+    PEATCLOAK_BAD_JOURNAL = 27, /* bytes that are no block or no hand, entries that are no lines of a hand */
+    PEATCLOAK_NOT_KEPT = 28     /* a hand that has no key, or more entries than fit */
 };
 
 /* out (4): PEATCLOAK_VERSION, PEATCLOAK_LAYOUT, PEATCLOAK_FLOATS and PEATCLOAK_NUMBERS of the library that is linked.
@@ -238,6 +243,83 @@ uint32_t peatcloak_round_do_bet(float *floats, size_t floats_len, uint32_t *numb
  * the refusal number of current_player_bet */
 uint32_t peatcloak_round_queries(const float *floats, size_t floats_len, const uint32_t *numbers, size_t numbers_len,
                                  float *amounts, size_t amounts_len, uint32_t *answers, size_t answers_len);
+
+/* ---- The hand journal (since 2.3.0)
+ *
+ * A hand is its accepted script lines: a `t` first, then n, f, b, p, x and w, as document 01 has them. On a card it is
+ * 1 to PEATCLOAK_HAND_BLOCKS blocks of PEATCLOAK_BLOCK bytes. A block holds up to PEATCLOAK_BLOCK_ENTRIES entries, and
+ * each but the last is filled. A line is an entry for its letter and one for each of its numbers, and may go on in the
+ * next block. A hand of the same title and lines is the same bytes, whoever writes it.
+ *
+ * On its way an entry is a number of 32 bits; a list of them is a tape. peatcloak_put_line lays a line onto a tape.
+ *
+ * To write a hand in whole: lay each line onto one tape (used begins at 0), then call peatcloak_write_hand.
+ *
+ * To write it block by block, with little memory: collect entries until a 121st is there, then lay a block of the
+ * first PEATCLOAK_BLOCK_ENTRIES; the 121st begins the rest. A filled block is not laid sooner, for it may be the last.
+ * As a line is laid in whole, the tape must hold a filled block and the longest line of a table: PEATCLOAK_TAPE. So lay
+ * a line. While more than PEATCLOAK_BLOCK_ENTRIES are used, call peatcloak_write_block with all that are used as the
+ * rest; it tells 1. Move those behind the first PEATCLOAK_BLOCK_ENTRIES to the front, and count the index up. When the
+ * hand is over, one more call with what is left tells 0, and the hand is closed.
+ *
+ * To read a card: take blocks of PEATCLOAK_BLOCK bytes, ask peatcloak_read_block of each, and stop behind the one that
+ * is the last of its hand. Ask peatcloak_read_hand of all of them together, in one list: it looks at the order of the
+ * blocks and at the lines. Then read line by line: at begins at 0, and goes on with the entry that peatcloak_line_at
+ * tells, until the letter is 0. */
+
+/* The bytes of a block, and the entries that fit into one. */
+#define PEATCLOAK_BLOCK 512
+#define PEATCLOAK_BLOCK_ENTRIES 120
+/* The most blocks and entries of a hand. */
+#define PEATCLOAK_HAND_BLOCKS 255
+#define PEATCLOAK_HAND_ENTRIES 30600
+/* The numbers of a line that are told, as many as a `t` with PEATCLOAK_SEATS stacks has. */
+#define PEATCLOAK_LINE_NUMBERS 20
+/* The entries of a tape for one block and one more line: 120, a letter and 20 numbers. */
+#define PEATCLOAK_TAPE 141
+/* The one edition that is known. */
+#define PEATCLOAK_EDITION 1
+
+/* Lays a line behind the used entries of a tape. out (1): how many are used then. 19 where out is empty; 27 for another
+ * letter, or a count of numbers that its letter never has (t below 4, b and p not 1, n, f and x not 0; w any); 19 where
+ * the tape has no room. A refusal writes nothing. */
+uint32_t peatcloak_put_line(uint32_t *tape, size_t tape_len, size_t used, uint32_t letter, const uint16_t *numbers,
+                            size_t numbers_len, uint32_t *out, size_t out_len);
+
+/* Writes the blocks of a hand over the first bytes. title (4): code, year, hand, edition. tape: all entries of the
+ * hand and no more. out (1): how many blocks. 19 where a list is too short, or a word of the title out of its range
+ * (code and year below 65536, edition below 256); 27 for entries that are no hand, or an edition that is not known; 28
+ * for year 0, or above PEATCLOAK_HAND_ENTRIES entries; 19 where bytes has too little room: then out[0] tells the blocks
+ * that it needs. No byte is written but those of the blocks, and none where it is refused. */
+uint32_t peatcloak_write_hand(const uint32_t *title, size_t title_len, const uint32_t *tape, size_t tape_len,
+                              uint8_t *bytes, size_t bytes_len, uint32_t *out, size_t out_len);
+
+/* Writes block index of a hand over the first PEATCLOAK_BLOCK bytes. rest: what is left of the hand's entries from this
+ * block on. out (1): 1 where another block must follow, else 0. 19 as above, or for an index above 255; 27 where
+ * nothing is left, for one of the first PEATCLOAK_BLOCK_ENTRIES entries that is none, or an edition that is not known;
+ * 28 for year 0, or where the rest would go on above block 254; 19 where bytes is too short. A refusal writes nothing.
+ * Whether the entries of all blocks together are the lines of a hand is asked by peatcloak_read_hand. */
+uint32_t peatcloak_write_block(const uint32_t *title, size_t title_len, uint32_t index, const uint32_t *rest,
+                               size_t rest_len, uint8_t *bytes, size_t bytes_len, uint32_t *out, size_t out_len);
+
+/* What one block says of itself: exactly PEATCLOAK_BLOCK bytes. head (7): code, year, hand, edition, block within the
+ * hand, whether it is the last (0, 1), entries used. 19, 27. */
+uint32_t peatcloak_read_block(const uint8_t *bytes, size_t bytes_len, uint32_t *head, size_t head_len);
+
+/* What the blocks of one hand say: exactly its bytes. head (6): code, year, hand, edition, blocks, entries. 19, 27. */
+uint32_t peatcloak_read_hand(const uint8_t *bytes, size_t bytes_len, uint32_t *head, size_t head_len);
+
+/* The line of a hand whose letter is entry at. line (3): letter, count of numbers, the entry after it; numbers
+ * (PEATCLOAK_LINE_NUMBERS): the first of them, and zeros. At the end letter 0, no numbers, and at itself. It looks at
+ * nothing but these entries: ask peatcloak_read_hand first. 19. */
+uint32_t peatcloak_line_at(const uint8_t *bytes, size_t bytes_len, size_t at, uint32_t *line, size_t line_len,
+                           uint16_t *numbers, size_t numbers_len);
+
+/* Plays a hand again, line by line from no table, and lays the table that it leads to, with the hand's key. out (1):
+ * how many lines were played. 19 where a list is too short; 27 for bytes that are no hand; else the number of the first
+ * line that is refused: then out[0] tells which, counted from 0, and nothing else is written. */
+uint32_t peatcloak_replay_hand(float *floats, size_t floats_len, uint32_t *numbers, size_t numbers_len,
+                               const uint8_t *bytes, size_t bytes_len, uint32_t *out, size_t out_len);
 
 #ifdef __cplusplus
 }

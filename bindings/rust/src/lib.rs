@@ -6,6 +6,7 @@
 
 pub mod arena;
 pub mod core;
+pub mod journal;
 pub mod library;
 #[cfg(feature = "parts")]
 pub mod parts;

@@ -112,6 +112,76 @@ unsafe extern "C" {
         script_len: usize,
     ) -> u32;
 
+    /// Lays a line behind the used entries of a tape; `out` tells how many are used then.
+    pub fn peatcloak_put_line(
+        tape: *mut u32,
+        tape_len: usize,
+        used: usize,
+        letter: u32,
+        numbers: *const u16,
+        numbers_len: usize,
+        out: *mut u32,
+        out_len: usize,
+    ) -> u32;
+    /// Writes the blocks of a hand: title (code, year, hand, edition) and all its entries; `out` tells the blocks.
+    pub fn peatcloak_write_hand(
+        title: *const u32,
+        title_len: usize,
+        tape: *const u32,
+        tape_len: usize,
+        bytes: *mut u8,
+        bytes_len: usize,
+        out: *mut u32,
+        out_len: usize,
+    ) -> u32;
+    /// Writes one block from the entries that are left of a hand; `out` tells 1 where another must follow.
+    pub fn peatcloak_write_block(
+        title: *const u32,
+        title_len: usize,
+        index: u32,
+        rest: *const u32,
+        rest_len: usize,
+        bytes: *mut u8,
+        bytes_len: usize,
+        out: *mut u32,
+        out_len: usize,
+    ) -> u32;
+    /// What one block says of itself, in 7 words.
+    pub fn peatcloak_read_block(
+        bytes: *const u8,
+        bytes_len: usize,
+        head: *mut u32,
+        head_len: usize,
+    ) -> u32;
+    /// What the blocks of one hand say, in 6 words.
+    pub fn peatcloak_read_hand(
+        bytes: *const u8,
+        bytes_len: usize,
+        head: *mut u32,
+        head_len: usize,
+    ) -> u32;
+    /// The line of a hand whose letter is an entry: 3 words and 20 numbers.
+    pub fn peatcloak_line_at(
+        bytes: *const u8,
+        bytes_len: usize,
+        at: usize,
+        line: *mut u32,
+        line_len: usize,
+        numbers: *mut u16,
+        numbers_len: usize,
+    ) -> u32;
+    /// The table that a hand leads to when it is played again; `out` tells the lines that were played.
+    pub fn peatcloak_replay_hand(
+        floats: *mut f32,
+        floats_len: usize,
+        numbers: *mut u32,
+        numbers_len: usize,
+        bytes: *const u8,
+        bytes_len: usize,
+        out: *mut u32,
+        out_len: usize,
+    ) -> u32;
+
     /// The first seats, and 65536 times the refusal number.
     pub safe fn peatcloak_seats_new(players: u32) -> u32;
     /// The set with a seat, and 65536 times the refusal number.

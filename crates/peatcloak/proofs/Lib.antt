@@ -11,4 +11,8 @@ pub mod LawsSeats
 pub mod LawsDataBack
 pub mod LawsDataFits
 pub mod LawsRounds
+pub mod LawsWriting
+pub mod LawsReading
+pub mod LawsCard
+pub mod LawsReplayed
 pub mod Promises

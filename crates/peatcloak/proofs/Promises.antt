@@ -87,3 +87,27 @@ peatcloak-round-do-bet κs a x y = same and same and only (first same)
 
 pub peatcloak-round-queries : OneResult crate.round_calls.peatcloak_round_queries.ended crate.round_calls.peatcloak_round_queries.Reads.Learnt
 peatcloak-round-queries κs a x y = same and past (past (same and only same))
+
+-- ---- src/journal_calls.rt
+pub peatcloak-put-line : OneResult crate.journal_calls.peatcloak_put_line.ended crate.journal_calls.peatcloak_put_line.Reads.Learnt
+peatcloak-put-line κs a x y = same and same and past (past (past (only same)))
+
+pub peatcloak-write-hand : OneResult crate.journal_calls.peatcloak_write_hand.ended crate.journal_calls.peatcloak_write_hand.Reads.Learnt
+peatcloak-write-hand κs a x y = same and past (past (same and only same))
+
+pub peatcloak-write-block : OneResult crate.journal_calls.peatcloak_write_block.ended crate.journal_calls.peatcloak_write_block.Reads.Learnt
+peatcloak-write-block κs a x y = same and past (past (past (same and only same)))
+
+-- ---- src/journal_reads.rt
+pub peatcloak-read-block : OneResult crate.journal_reads.peatcloak_read_block.ended crate.journal_reads.peatcloak_read_block.Reads.Learnt
+peatcloak-read-block κs a x y = same and past (only same)
+
+pub peatcloak-read-hand : OneResult crate.journal_reads.peatcloak_read_hand.ended crate.journal_reads.peatcloak_read_hand.Reads.Learnt
+peatcloak-read-hand κs a x y = same and past (only same)
+
+pub peatcloak-line-at : OneResult crate.journal_reads.peatcloak_line_at.ended crate.journal_reads.peatcloak_line_at.Reads.Learnt
+peatcloak-line-at κs a x y = same and past (past (same and only same))
+
+-- ---- src/journal_replay.rt
+pub peatcloak-replay-hand : OneResult crate.journal_replay.peatcloak_replay_hand.ended crate.journal_replay.peatcloak_replay_hand.Reads.Learnt
+peatcloak-replay-hand κs a x y = same and same and same and past (only (first same))

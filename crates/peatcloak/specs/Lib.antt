@@ -7,3 +7,6 @@ pub mod Settling
 pub mod Playing
 pub mod Seats
 pub mod Rounds
+pub mod Writing
+pub mod Reading
+pub mod Replaying

@@ -1,9 +1,13 @@
 // The boundary for C and Rust. A table is two lists of the host's, whose places `layout` names. Each call answers 0 or document 01's number, and 19 where no
-// table stands in the lists; a refusal writes nothing. A set of seats and round data cross alone too.
+// table stands in the lists; a refusal writes nothing, but where it is said. A set of seats and round data cross alone too, and a hand of the journal as bytes.
 pub mod asking;
 mod bet;
 pub mod building;
 mod given_added;
+pub mod journal_calls;
+pub mod journal_reads;
+pub mod journal_replay;
+mod journal_words;
 mod outcomes;
 pub mod playing;
 pub mod round_calls;

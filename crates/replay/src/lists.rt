@@ -2,10 +2,15 @@
 use crate::agreeing;
 use crate::agreeing::Told;
 use crate::build_lines;
+use crate::cases;
+use crate::cases::Case;
 use crate::counting;
 use crate::decoding;
 use crate::decoding::Script;
 use crate::float_lines;
+use crate::journal_case;
+use crate::journal_case::Tape;
+use crate::journal_lines;
 use crate::judging;
 use crate::judging::Tally;
 use crate::lines;
@@ -16,7 +21,6 @@ use crate::playing::Printed;
 use crate::reading;
 use crate::round_lines;
 use crate::script_lines;
-use crate::script_lines::Case;
 use crate::seat_lines;
 use crate::settle_lines;
 use crate::step_lines;
@@ -31,15 +35,17 @@ pub enum List {
     Steps,
     Settlements,
     Scripts,
+    Journals,
 }
 
-// A line is asked of our functions. A list keeps its own table from line to line, or its case.
+// A line is asked of our functions. A list keeps its own table from line to line, or its case. The image of a hand stands in a script's place.
 fn ask(
     list: List,
     line: &[u8],
     table: &mut Words,
     script: &mut Script,
     printed: &mut Printed,
+    tape: &mut Tape,
     case: &mut Case,
 ) -> Told {
     let head = reading::read_mark(line, 0);
@@ -51,6 +57,7 @@ fn ask(
         List::Steps => step_lines::ask(head.byte, line, head.next, table),
         List::Settlements => settle_lines::ask(head.byte, line, head.next, table),
         List::Scripts => script_lines::ask(line, script, printed, case),
+        List::Journals => journal_lines::ask(head.byte, line, head.next, tape, script, case),
     }
 }
 
@@ -62,13 +69,14 @@ fn take(
     table: &mut Words,
     script: &mut Script,
     printed: &mut Printed,
+    tape: &mut Tape,
     case: &mut Case,
 ) -> Told {
     let len = l.len;
     let all = &line[..];
     if l.is_whole {
         if len <= all.len() {
-            return ask(list, &all[0..len], table, script, printed, case);
+            return ask(list, &all[0..len], table, script, printed, tape, case);
         }
     }
     agreeing::no_match()
@@ -81,7 +89,8 @@ pub fn replay(name: &[u8], list: List) {
     let mut table = words::ZEROS;
     let mut script = decoding::NO_SCRIPT;
     let mut printed = playing::NO_BYTES;
-    let mut case = script_lines::NO_CASE;
+    let mut tape = journal_case::NO_TAPE;
+    let mut case = cases::NO_CASE;
     let mut counts = counting::NO_COUNTS;
     let mut l = Lines::new();
     let mut s = Tally {
@@ -97,6 +106,7 @@ pub fn replay(name: &[u8], list: List) {
             &mut table,
             &mut script,
             &mut printed,
+            &mut tape,
             &mut case,
         );
         s = judging::take(name, &line, l, told, &mut counts, s);

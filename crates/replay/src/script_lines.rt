@@ -3,6 +3,11 @@
 use crate::agreeing;
 use crate::agreeing::LOADED;
 use crate::agreeing::Told;
+use crate::cases;
+use crate::cases::CODE;
+use crate::cases::Case;
+use crate::cases::HAND;
+use crate::cases::YEAR;
 use crate::decoding;
 use crate::decoding::Script;
 use crate::inputs;
@@ -13,11 +18,6 @@ use crate::reading;
 use crate::reading::NOWHERE;
 use console::ending;
 use keys::HandKey;
-
-// What is kept of a case: three numbers, whether its key was said, and the key's three.
-pub type Case = [usize; 7];
-
-pub const NO_CASE: Case = [0; 7];
 
 // The bytes of its script so far, nowhere if they are malformed.
 const LENGTH: usize = 0;
@@ -30,12 +30,6 @@ const SAID: usize = 2;
 
 // Whether the list has said the key: 1.
 const KEYED: usize = 3;
-
-const CODE: usize = 4;
-
-const YEAR: usize = 5;
-
-const HAND: usize = 6;
 
 // A line that says all of itself, or nothing.
 fn told_whole(line: &[u8], is_agreed: bool, answer: u8) -> Told {
@@ -59,20 +53,6 @@ fn append(line: &[u8], at: usize, is_ended: bool, script: &mut Script, case: &mu
     told_whole(line, is_good, LOADED)
 }
 
-fn short(n: u16) -> usize {
-    n as usize
-}
-
-fn full(n: u32) -> usize {
-    n as usize
-}
-
-fn keep_key(case: &mut Case, key: HandKey) {
-    case[CODE] = short(key.code);
-    case[YEAR] = short(key.year);
-    case[HAND] = full(key.hand);
-}
-
 // The key of the table that stands at a script's end.
 fn key_at_end(script: &[u8]) -> HandKey {
     let s = ending::end_of(script);
@@ -89,7 +69,7 @@ fn play(script: &Script, printed: &mut Printed, case: &mut Case) {
         case[PRINTED] = NOWHERE;
         if len <= all.len() {
             case[PRINTED] = playing::play(&all[0..len], printed);
-            keep_key(case, key_at_end(&all[0..len]));
+            cases::keep_key(case, key_at_end(&all[0..len]));
         }
     }
 }
@@ -98,8 +78,8 @@ fn play(script: &Script, printed: &mut Printed, case: &mut Case) {
 fn say_key(line: &[u8], at: usize, case: &mut Case) -> Told {
     let k = key_words::read_key(line, at);
     let said = k.value;
-    let is_agreed = (short(said.code) == case[CODE])
-        & ((short(said.year) == case[YEAR]) & (full(said.hand) == case[HAND]));
+    let is_agreed = (cases::short(said.code) == case[CODE])
+        & ((cases::short(said.year) == case[YEAR]) & (cases::full(said.hand) == case[HAND]));
     case[KEYED] = 1;
     told_whole(line, is_agreed & (k.next == reading::end_of(line)), 0)
 }
@@ -146,7 +126,7 @@ pub fn ask(line: &[u8], script: &mut Script, printed: &mut Printed, case: &mut C
     if line.len() == 0 {
         play(script, printed, case);
         let is_agreed = (case[SAID] == case[PRINTED]) & ((case[YEAR] == 0) | (case[KEYED] == 1));
-        *case = NO_CASE;
+        *case = cases::NO_CASE;
         return told_whole(line, is_agreed, LOADED);
     }
     match mark {

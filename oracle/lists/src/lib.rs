@@ -15,6 +15,8 @@ pub mod edges;
 pub mod faults;
 pub mod floats;
 pub mod hands;
+pub mod journal;
+pub mod journals;
 pub mod key;
 pub mod kinds;
 pub mod line;

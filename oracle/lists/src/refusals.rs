@@ -1,4 +1,4 @@
-//! Document 01's refusal numbers, and the Rust's errors under them.
+//! The refusal numbers of documents 01 and 02, and the Rust's errors under them.
 
 use rs_poker::arena::GameStateBuilderError;
 use rs_poker::arena::errors::GameStateError;
@@ -15,6 +15,8 @@ pub const NOT_WHOLE_CHIPS: Refusal = 23;
 pub const ALREADY_PAID: Refusal = 24;
 pub const BAD_LINE: Refusal = 25;
 pub const SCRIPT_TOO_LONG: Refusal = 26;
+pub const BAD_JOURNAL: Refusal = 27;
+pub const NOT_KEPT: Refusal = 28;
 
 pub fn of_build(error: GameStateBuilderError) -> Refusal {
     match error {

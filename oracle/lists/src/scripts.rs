@@ -7,7 +7,7 @@ mod keys;
 mod limits;
 pub mod player;
 mod pots;
-mod reading;
+pub mod reading;
 mod refused;
 pub mod written;
 

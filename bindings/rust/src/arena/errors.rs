@@ -1,4 +1,4 @@
-//! Document 01's refusals under the Rust's names. They carry no values: a refusal is its number.
+//! The refusals of documents 01 and 02, those of the Rust under its names. They carry no values: a refusal is its number.
 
 use std::error::Error;
 use std::fmt;
@@ -8,10 +8,10 @@ macro_rules! refusals {
         $(#[$about])*
         #[derive(Debug, Clone, Copy, PartialEq, Eq, Hash)]
         #[non_exhaustive]
-        pub enum $name { $(#[doc = concat!("Document 01's ", $number, ".")] $variant = $number,)* }
+        pub enum $name { $(#[doc = concat!("Refusal ", $number, ".")] $variant = $number,)* }
 
         impl $name {
-            /// Document 01's number.
+            /// Its number.
             pub fn number(self) -> u32 {
                 self as u32
             }
@@ -77,6 +77,14 @@ refusals! {
     ScriptError {
         BadLine = 25,
         ScriptTooLong = 26,
+    }
+}
+
+refusals! {
+    /// Why bytes are no hand, or a hand was not written.
+    JournalError {
+        BadJournal = 27,
+        NotKept = 28,
     }
 }
 

@@ -1,0 +1,10 @@
+pub mod Check
+pub mod Entry
+pub mod Block
+pub mod Put
+pub mod Read
+pub mod Lines
+pub mod Hand
+pub mod Tape
+pub mod Lay
+pub mod Reading

@@ -1,0 +1,31 @@
+-- `peatcloak::journal_reads::tell_block`: by whether it was read. Assumes nothing.
+use mathlib.Core.Path.{refl}
+use Rattle.peatcloak.specs.Reading.{blockReadNumber, blockReadTold}
+use borrow.Author.Needs.{needs}
+use Rattle.peatcloak.proofs.journal_reads.tell_block.Statement.{statement}
+use Rattle.peatcloak.proofs.journal_reads.tell_block.Tie as tie
+
+returns : tie.Need-returns
+unfolding blockReadNumber blockReadTold
+returns c = simp (c .before .before .read .given .1, c .refused .ensures) (refl, refl)
+
+returns-2 : tie.Need-returns-2
+unfolding blockReadNumber blockReadTold
+returns-2 c =
+    let at-copy = c .before .before in
+    let at-words = at-copy .before .before .before in
+    simp (at-words .before .before .read2 .given .1, at-copy .copy-u32 .ensures, at-words .block-words .ensures) (refl, refl)
+
+pub tell-block-spec : {M : Type 1} → statement M
+tell-block-spec =
+    tie.close
+    (tie.spec
+    (λ c. search needs)
+    (λ c κs. search needs)
+    (λ c. search needs)
+    (λ c κs. search needs)
+    (λ c. search needs)
+    (λ c κs. search needs)
+    returns
+    (λ c. search needs)
+    returns-2)

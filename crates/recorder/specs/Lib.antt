@@ -1,0 +1,5 @@
+pub mod Hands
+pub mod Entries
+pub mod Laying
+pub mod Taking
+pub mod Replay
