@@ -4,10 +4,10 @@ use peatcloak::journal::first_hand;
 
 use crate::{Tried, hands};
 
-const HANDS: u32 = 200;
+pub const HANDS: u32 = 200;
 
 /// The card, and where each hand ends.
-fn card() -> Result<(Vec<u8>, Vec<usize>), String> {
+pub fn card() -> Result<(Vec<u8>, Vec<usize>), String> {
     let (mut bytes, mut ends) = (Vec::new(), Vec::new());
     for number in 1..=HANDS {
         let lines = hands::lines(hands::SMALLEST + (number as usize * 53) % 300);
@@ -22,7 +22,7 @@ fn card() -> Result<(Vec<u8>, Vec<usize>), String> {
 }
 
 /// How many hands read from the front on, in order, and whether nothing is left behind them.
-fn read(card: &[u8]) -> (usize, bool) {
+pub fn read(card: &[u8]) -> (usize, bool) {
     let (mut rest, mut hands) = (card, 0);
     while let Ok((hand, behind)) = first_hand(rest) {
         if hand.title().key.hand as usize != hands + 1 {

@@ -3,7 +3,9 @@
 mod bits;
 mod cuts;
 mod hands;
+mod kills;
 mod lengths;
+mod program;
 
 use std::process::ExitCode;
 
@@ -12,17 +14,22 @@ use peatcloak::library;
 /// What a trial came to: what was counted, or the first answer that was not the expected one.
 type Tried = Result<String, String>;
 
-const TRIALS: [(&str, fn() -> Tried); 3] =
-    [("cuts", cuts::try_all), ("bits", bits::try_all), ("lengths", lengths::try_all)];
+const TRIALS: [(&str, fn() -> Tried); 5] = [
+    ("cuts", cuts::try_all),
+    ("bits", bits::try_all),
+    ("lengths", lengths::try_all),
+    ("program", program::try_all),
+    ("kills", kills::try_all),
+];
 
-/// `faults [cuts|bits|lengths]`: one trial, or all of them.
+/// `faults [TRIAL]`: one trial, or all of them. JOURNAL names the program behind the last two.
 fn main() -> ExitCode {
     library::check();
     let word = std::env::args().nth(1);
     let asked: Vec<_> =
         TRIALS.into_iter().filter(|(name, _)| word.as_deref().is_none_or(|w| w == *name)).collect();
     if asked.is_empty() {
-        eprintln!("faults: cuts, bits, lengths, or nothing for all three");
+        eprintln!("faults: cuts, bits, lengths, program, kills, or nothing for all");
         return ExitCode::from(2);
     }
     let told = asked.into_iter().map(|(name, trial)| tell(name, trial()));
