@@ -3,6 +3,7 @@
 mod bets;
 mod builds;
 mod figures;
+mod journal;
 mod report;
 mod scripts;
 mod settlement;
@@ -53,6 +54,7 @@ fn all(plain: &str) -> ExitCode {
     match plain.filter(|plain| plain.len() == THE_RUST.len()) {
         Some(plain) => {
             report::tell(&rust, &plain, &ours);
+            journal::tell();
             ExitCode::SUCCESS
         }
         None => {
