@@ -12,8 +12,9 @@
  * A hand that has a key can be kept on a card, as blocks of bytes, and read back (since 2.3.0): see "The hand journal"
  * below.
  *
- * A table function answers 0, or document 01's refusal number; then nothing at all is written. 19 is also given where a
- * list is too short or a word is out of the range of what it stands for. */
+ * A function answers 0, or the refusal number of documents 01 and 02; then nothing at all is written, but where it is
+ * said: peatcloak_write_hand and peatcloak_replay_hand may tell a number in out. 19 is also given where a list is too
+ * short or a word is out of the range of what it stands for. */
 #ifndef PEATCLOAK_H
 #define PEATCLOAK_H
 
