@@ -261,10 +261,12 @@ uint32_t peatcloak_round_queries(const float *floats, size_t floats_len, const u
  * As a line is laid in whole, the tape must hold a filled block and the longest line of a table: PEATCLOAK_TAPE. So lay
  * a line. While more than PEATCLOAK_BLOCK_ENTRIES are used, call peatcloak_write_block with all that are used as the
  * rest; it tells 1. Move those behind the first PEATCLOAK_BLOCK_ENTRIES to the front, and count the index up. When the
- * hand is over, one more call with what is left tells 0, and the hand is closed.
+ * hand is over, one more call with what is left tells 0, and the hand is closed. A hand of more than
+ * PEATCLOAK_HAND_ENTRIES entries shows late so: 28 comes when 254 of its blocks are laid, and they are no hand.
  *
  * To read a card: take blocks of PEATCLOAK_BLOCK bytes, ask peatcloak_read_block of each, and stop behind the one that
- * is the last of its hand. Ask peatcloak_read_hand of all of them together, in one list: it looks at the order of the
+ * is the last of its hand, or behind PEATCLOAK_HAND_BLOCKS of them: then there is none, which is 27, as is a part of a
+ * block at the end. Ask peatcloak_read_hand of all of them together, in one list: it looks at the order of the
  * blocks and at the lines. Then read line by line: at begins at 0, and goes on with the entry that peatcloak_line_at
  * tells, until the letter is 0. */
 
@@ -311,8 +313,9 @@ uint32_t peatcloak_read_block(const uint8_t *bytes, size_t bytes_len, uint32_t *
 uint32_t peatcloak_read_hand(const uint8_t *bytes, size_t bytes_len, uint32_t *head, size_t head_len);
 
 /* The line of a hand whose letter is entry at. line (3): letter, count of numbers, the entry after it; numbers
- * (PEATCLOAK_LINE_NUMBERS): the first of them, and zeros. At the end letter 0, no numbers, and at itself. It looks at
- * nothing but these entries: ask peatcloak_read_hand first. 19. */
+ * (PEATCLOAK_LINE_NUMBERS): the first of them, and zeros. At the end letter 0, no numbers, and at itself. Entries and
+ * places are told by their lowest 32 bits. It looks at these entries, and at byte 10 of the last block for their
+ * count, and not at whether they are a hand: ask peatcloak_read_hand first. 19. */
 uint32_t peatcloak_line_at(const uint8_t *bytes, size_t bytes_len, size_t at, uint32_t *line, size_t line_len,
                            uint16_t *numbers, size_t numbers_len);
 

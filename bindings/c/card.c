@@ -108,10 +108,11 @@ static size_t next_hand(FILE *card, uint8_t *bytes) {
     size_t len = 0;
     uint32_t head[7] = {0};
     while (!head[5]) {
-        if (fread(bytes + len, PEATCLOAK_BLOCK, 1, card) != 1) {
-            must_file("read", len == 0 && feof(card));
+        size_t got = fread(bytes + len, 1, PEATCLOAK_BLOCK, card);
+        if (got == 0 && len == 0 && feof(card)) {
             return 0;
         }
+        must_file("read: it ends within a hand", got == PEATCLOAK_BLOCK);
         must("read_block", peatcloak_read_block(bytes + len, PEATCLOAK_BLOCK, head, 7));
         len += PEATCLOAK_BLOCK;
         must_file("read: no block is the last", head[5] || len < PEATCLOAK_HAND_BLOCKS * PEATCLOAK_BLOCK);

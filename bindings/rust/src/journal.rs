@@ -1,7 +1,7 @@
 //! The hand journal (added): a hand as blocks of 512 bytes, for a card.
 //!
 //! [`Hand`] collects a hand's lines and writes its blocks. [`HandReader`] reads the bytes of one hand: its title and its
-//! lines, as they were pushed. [`first_hand`] finds a hand among the bytes of a card, and [`replay`] plays one again.
+//! lines, as they were pushed, each with its count and its first [`LINE_NUMBERS`] numbers. [`first_hand`] finds a hand among the bytes of a card, and [`replay`] plays one again.
 
 mod reading;
 mod replaying;

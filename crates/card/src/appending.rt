@@ -2,6 +2,7 @@
 use crate::cards;
 use crate::cards::BLOCK;
 use crate::inputs;
+use crate::numbers;
 use crate::statuses::DONE;
 use crate::statuses::FAILED;
 use crate::telling;
@@ -16,15 +17,29 @@ fn say_hand(key: HandKey, what: &[u8]) {
     say(what);
 }
 
-// A device has no length to be set, so that the size decides whether all is as before.
-fn cut_back(path: &[u8], fd: i32, stood: usize) {
+// What another program has put there is not cut off.
+fn not_cut_back(path: &[u8]) {
+    say(b"journal: another program has written behind what stood, so nothing is cut back: ");
+    say(path);
+    say(b"\n");
+}
+
+// Cuts off the bytes that were put behind those that stood. A device has no length to be set, so that the size decides whether all is as before.
+fn cut_back(path: &[u8], fd: i32, stood: usize, put: usize) {
+    if numbers::plus(stood, put) < cards::size_of(fd) {
+        not_cut_back(path);
+        return;
+    }
     libc::ftruncate(fd, inputs::place_of(stood));
     if cards::size_of(fd) != stood {
         say(b"journal: that hand may stand there, and the file cannot be cut back: ");
         os::fail(path);
         return;
     }
-    libc::fsync(fd);
+    if libc::fsync(fd) != 0 {
+        say(b"journal: cutting it back is not synced: ");
+        os::fail(path);
+    }
     say(b"journal: ");
     say(path);
     say(b" is cut back to what stood before that hand: blocks ");
@@ -32,10 +47,11 @@ fn cut_back(path: &[u8], fd: i32, stood: usize) {
     say(b"\n");
 }
 
+// A write that fails puts nothing there.
 fn not_written(path: &[u8], fd: i32, key: HandKey, stood: usize) -> u8 {
     say_hand(key, b" is not written: ");
     os::fail(path);
-    cut_back(path, fd, stood);
+    cut_back(path, fd, stood, 0);
     FAILED
 }
 
@@ -46,14 +62,14 @@ fn short_write(path: &[u8], fd: i32, key: HandKey, stood: usize, put: usize) -> 
     say(b": no room for more than ");
     say_number(put as u64);
     say(b" bytes of it\n");
-    cut_back(path, fd, stood);
+    cut_back(path, fd, stood, put);
     FAILED
 }
 
-fn not_synced(path: &[u8], fd: i32, key: HandKey, stood: usize) -> u8 {
+fn not_synced(path: &[u8], fd: i32, key: HandKey, stood: usize, put: usize) -> u8 {
     say_hand(key, b" is not synced: ");
     os::fail(path);
-    cut_back(path, fd, stood);
+    cut_back(path, fd, stood, put);
     FAILED
 }
 
@@ -79,7 +95,7 @@ pub fn append(path: &[u8], fd: i32, key: HandKey, hand: &[u8], stood: usize) -> 
         return short_write(path, fd, key, stood, put);
     }
     if libc::fsync(fd) != 0 {
-        return not_synced(path, fd, key, stood);
+        return not_synced(path, fd, key, stood, put);
     }
     DONE
 }

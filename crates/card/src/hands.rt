@@ -37,16 +37,10 @@ const NO_TITLE: Title = Title {
     edition: 0,
 };
 
-fn is_same_title(a: Title, b: Title) -> bool {
-    let k = a.key;
-    let m = b.key;
-    k.is_same(m) & (a.edition == b.edition)
-}
-
 // Block i of a hand whose first block has this title.
 fn seen_as(head: Head, i: usize, first: Title) -> Seen {
     let title = head.title;
-    let fits = (i == 0) | is_same_title(title, first);
+    let fits = (i == 0) | title.is_same(first);
     if !fits | (head.index as usize != i) {
         return Seen::Bad;
     }

@@ -86,7 +86,7 @@ fn sync_folder(path: &[u8]) {
 fn make(path: &[u8]) -> Standing {
     let fd = os::create(path);
     if fd < 0 {
-        return Standing::Ended(telling::not_opened(path));
+        return Standing::Ended(telling::not_made(path));
     }
     libc::close(fd);
     sync_folder(path);

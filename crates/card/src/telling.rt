@@ -42,6 +42,17 @@ pub fn not_opened(path: &[u8]) -> u8 {
     WRONG_USE
 }
 
+// A file that cannot be made: a full disk is no wrong use.
+pub fn not_made(path: &[u8]) -> u8 {
+    let error = os::errno();
+    say(b"journal: cannot make ");
+    os::fail(path);
+    if (error == libc::ENOSPC) | (error == libc::EIO) {
+        return FAILED;
+    }
+    WRONG_USE
+}
+
 // A folder and a pipe open, and are no card.
 pub fn not_read(path: &[u8]) -> u8 {
     let error = os::errno();

@@ -9,7 +9,7 @@ use borrow.Author.Tests.{lt-ltb, eqb-true}
 use lib.Dec.{eqb, ltb}
 use lib.ListN.{length, getD}
 use Rattle.journal.specs.Check.{byte}
-use Rattle.journal.specs.Entry.{Entry, letter, number, entryBytes, entryWord, fourBytes, twoAt, fourAt, isEntry}
+use Rattle.journal.specs.Entry.{Entry, letter, number, entryBytes, entryWord, fourBytes, isEntry}
 use Rattle.journal.specs.Block.{bit, blockOf, titleAt, entryAt, entriesFrom, entriesOf, entryFits, entriesFit, blockOk}
 use Rattle.journal.specs.Read.{headAt, readOf}
 use Rattle.journal.specs.declared.block.Title.{Title}
@@ -21,7 +21,7 @@ use Rattle.commons.proofs.Bools.{either}
 use Rattle.commons.proofs.Folds.{all-at}
 use Rattle.journal.proofs.LawsBlock.{accepted, refused, ok-year, ok-index, ok-last, ok-some, ok-used, ok-full, ok-edition, ok-entries}
 use Rattle.journal.proofs.LawsBack.{Fit, index-back, last-back, used-back, title-back, entries-back, written-ok}
-use Rattle.journal.proofs.LawsImage.{one-image, entries-long}
+use Rattle.journal.proofs.LawsImage.{one-image, entries-long, two-small, four-small}
 use Rattle.journal.proofs.LawsPut.{four-bytes}
 
 -- a written block reads as its key, index, last bit and count, and its entries are those written
@@ -50,14 +50,6 @@ bit-of (suc zero) h = refl
 bit-of (suc (suc n)) h = absurd (omega arith)
 
 module _ (b : List ℕ) (small : (i : ℕ) → byte b i < 256) (ok : blockOk b ≡ true) where
-  two-small : (i : ℕ) → twoAt b i < 65536
-  unfolding twoAt
-  two-small i = omega (arith, small i, small (i + 1))
-
-  four-small : (i : ℕ) → fourAt b i < 4294967296
-  unfolding fourAt
-  four-small i = omega (arith, small i, small (i + 1), small (i + 2), small (i + 3))
-
   entry-good : (i : ℕ) → i < byte b 10 → isEntry (entryAt b i) ≡ true
   unfolding entriesFit
   entry-good i h =
@@ -76,10 +68,10 @@ module _ (b : List ℕ) (small : (i : ℕ) → byte b i < 256) (ok : blockOk b �
   read-fit =
       let e : length (entriesOf b) ≡ byte b 10 = entries-long b 0 (byte b 10) in
       record {
-        code = two-small 0;
-        year = two-small 2;
+        code = two-small b small 0;
+        year = two-small b small 2;
         keyed = ok-year b ok;
-        hand = four-small 4;
+        hand = four-small b small 4;
         edition = ok-edition b ok;
         below = ok-index b ok;
         bit = ok-last b ok;
@@ -104,8 +96,9 @@ one-block b h small e = at (either (blockOk b))
     at (inr f) = absurd (let p = refused b f ∙ e in let z : _≡_ {A = ℕ} 0 1 = cc in omega arith)
 
 -- a block is refused exactly where a test fails, with 27
-pub refused-iff : (b : List ℕ) → readOf b ≡ Refused BadJournal → blockOk b ≡ false
-refused-iff b e = ⊎-elim (λ t. absurd (let p = accepted b t ∙ e in let z : _≡_ {A = ℕ} 0 1 = cc in omega arith)) (λ f. f) (either (blockOk b))
+pub refused-iff : (b : List ℕ) → (readOf b ≡ Refused BadJournal → blockOk b ≡ false) × (blockOk b ≡ false → readOf b ≡ Refused BadJournal)
+refused-iff b =
+    (λ e. ⊎-elim (λ t. absurd (let p = accepted b t ∙ e in let z : _≡_ {A = ℕ} 0 1 = cc in omega arith)) (λ f. f) (either (blockOk b)), λ f. sym (refused b f))
 
 -- an entry is held as the number that its four bytes spell
 pub letter-bytes : (l : ℕ) → l < 256 → fourBytes (entryWord (letter l)) ≡ entryBytes (letter l)

@@ -44,7 +44,7 @@ piece-set b i v =
 -- ---- the hand
 module _ (b : List ℕ) (small : (i : ℕ) → byte b i < 256) (h : HandHead) (e : reads b ≡ Hand h) (i v : ℕ) (l : i < length b) (f : v < 256) where
   ok : handOk b ≡ true
-  ok = read-ok b small h e .0
+  ok = read-ok b h e .0
 
   abbrev block : List ℕ
   block = piece 512 b (i / 512)

@@ -9,7 +9,6 @@ use borrow.Author.Tests.{ne-eqb, eqb-false, le-ltb, ltb-false}
 use lib.Dec.{eqb, ltb}
 use lib.ListN.{length, getD, List·getD-eq-default}
 use Rattle.journal.specs.Check.{byte}
-use Rattle.journal.specs.Entry.{twoAt, fourAt}
 use Rattle.keys.specs.Keys.{isKey}
 use Rattle.journal.specs.Block.{isEdition, titleAt}
 use Rattle.journal.specs.Lines.{Line, spells, linesOk, tapeOf, linesOf}
@@ -24,6 +23,7 @@ use Rattle.journal.specs.declared.hand.HandWritten.the-variants.{Denied,
 use Rattle.commons.proofs.Bools.{and-both, or-neither, turned}
 use Rattle.commons.proofs.Order.{lt-or-le}
 use Rattle.journal.proofs.LawsBlock.{ok-year, ok-index, ok-edition}
+use Rattle.journal.proofs.LawsImage.{two-small, four-small}
 use Rattle.journal.proofs.LawsHand.{words-long, words-at}
 use Rattle.journal.proofs.LawsSpelt.{lines-spell, lines-back, spells-lines, spells-tape}
 use Rattle.journal.proofs.LawsTrip.{Kept, reads-hand, words-are}
@@ -64,17 +64,17 @@ round-trip k ws n f e =
     (reads-hand k ws (t .0) ∙ rw (t .1), words-are k ws (t .0))
 
 -- ---- what reads was written
+pub read-ok : (b : List ℕ) (h : HandHead) → reads b ≡ Hand h → (handOk b ≡ true) × (record { title = titleAt b; blocks = blocksIn b; entries = wordCount b } ≡ h)
+unfolding reads
+read-ok b h e = at (handOk b) refl e
+  where
+    at : (u : Bool) → handOk b ≡ u → cond u (Hand (record { title = titleAt b; blocks = blocksIn b; entries = wordCount b })) (Refused BadJournal) ≡ Hand h → (handOk b ≡ true) × (record { title = titleAt b; blocks = blocksIn b; entries = wordCount b } ≡ h)
+    at true q e = (q, cc)
+    at false q e = absurd (let z : _≡_ {A = ℕ} 0 1 = cc in omega arith)
+
 module _ (b : List ℕ) (small : (i : ℕ) → byte b i < 256) where
-  two-small : (i : ℕ) → twoAt b i < 65536
-  unfolding twoAt
-  two-small i = omega (arith, small i, small (i + 1))
-
-  four-small : (i : ℕ) → fourAt b i < 4294967296
-  unfolding fourAt
-  four-small i = omega (arith, small i, small (i + 1), small (i + 2), small (i + 3))
-
   pub key-fits : KeyFits (titleAt b)
-  key-fits = record { code = two-small 0; year = two-small 2; hand = four-small 4 }
+  key-fits = record { code = two-small b small 0; year = two-small b small 2; hand = four-small b small 4 }
 
   module _ (ok : handOk b ≡ true) where
     pub read-kept : Kept (titleAt b) (wordsOf b)
@@ -88,27 +88,19 @@ module _ (b : List ℕ) (small : (i : ℕ) → byte b i < 256) where
         let c = total-is b small ok in
         let u = bounds b small ok in
         record {
-          code = two-small 0;
-          year = two-small 2;
+          code = two-small b small 0;
+          year = two-small b small 2;
           keyed = λ z. ok-year (piece 512 b 0) (block-ok b small ok 0 s) (ap (λ (m : Title). m .key .year) (title-is b small ok 0 s) ∙ z);
-          hand = four-small 4;
+          hand = four-small b small 4;
           edition = ap isEdition (sym (ap (λ (m : Title). m .edition) (title-is b small ok 0 s))) ∙ ok-edition (piece 512 b 0) (block-ok b small ok 0 s);
           lines = spelled b small ok;
           most = omega arith;
         }
 
-  pub read-ok : (h : HandHead) → reads b ≡ Hand h → (handOk b ≡ true) × (record { title = titleAt b; blocks = blocksIn b; entries = wordCount b } ≡ h)
-  unfolding reads
-  read-ok h e = at (handOk b) refl e
-    where
-      at : (u : Bool) → handOk b ≡ u → cond u (Hand (record { title = titleAt b; blocks = blocksIn b; entries = wordCount b })) (Refused BadJournal) ≡ Hand h → (handOk b ≡ true) × (record { title = titleAt b; blocks = blocksIn b; entries = wordCount b } ≡ h)
-      at true q e = (q, cc)
-      at false q e = absurd (let z : _≡_ {A = ℕ} 0 1 = cc in omega arith)
-
   pub one-image : (h : HandHead) → reads b ≡ Hand h
       → (writes (h .title) (wordsOf b) ≡ Blocks (h .blocks)) × (b ≡ handBytes (h .title) (wordsOf b)) × (length (wordsOf b) ≡ h .entries)
   one-image h e =
-      let q = read-ok h e in
+      let q = read-ok b h e in
       let ok = q .0 in
       rw (sym (q .1)) (
         kept-writes (titleAt b) (wordsOf b) (read-kept ok) ∙ ap Blocks (blocks-are b small ok),
@@ -134,7 +126,7 @@ lines-trip k ls f y v e m =
 pub lines-image : (b : List ℕ) → ((i : ℕ) → byte b i < 256) → (h : HandHead) → reads b ≡ Hand h
     → (linesOk (linesOf (wordsOf b)) ≡ true) × (b ≡ handBytes (h .title) (tapeOf (linesOf (wordsOf b))))
 lines-image b small h e =
-    let q = read-ok b small h e in
+    let q = read-ok b h e in
     let s = spelled b small (q .0) in
     let i = one-image b small h e in
     (spells-lines (wordsOf b) (words-small b small) s, i .1 ∙ ap (handBytes (h .title)) (sym (spells-tape (wordsOf b) s)))

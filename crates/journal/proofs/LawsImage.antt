@@ -59,6 +59,15 @@ entries-long b i zero = refl
 entries-long b i (suc n) = ap suc (entries-long b (suc i) n)
 
 module _ (b : List ℕ) (small : (i : ℕ) → byte b i < 256) where
+  -- two and four bytes spell a number of 16 and of 32 bits
+  pub two-small : (i : ℕ) → twoAt b i < 65536
+  unfolding twoAt
+  two-small i = omega (arith, small i, small (i + 1))
+
+  pub four-small : (i : ℕ) → fourAt b i < 4294967296
+  unfolding fourAt
+  four-small i = omega (arith, small i, small (i + 1), small (i + 2), small (i + 3))
+
   four-back : (j : ℕ) → fourBytes (fourAt b j) ≡ byte b j ∷ byte b (j + 1) ∷ byte b (j + 2) ∷ byte b (j + 3) ∷ []
   unfolding fourAt
   four-back j = four-bytes (byte b j) (byte b (j + 1)) (byte b (j + 2)) (byte b (j + 3)) (small j) (small (j + 1)) (small (j + 2)) (small (j + 3))

@@ -5,10 +5,11 @@ use mathlib.Core.Path.{_≡_, refl, sym, ap, _∙_}
 use mathlib.Core.Bool.{Bool, true, false, cond, not, _&&_, _||_}
 use mathlib.Core.Logic.{⊎-elim}
 use mathlib.Core.List.{List, _++_}
-use borrow.Author.Tests.{lt-ltb, le-ltb, le-leb, lt-leb}
+use borrow.Author.Tests.{lt-ltb, le-ltb, le-leb, lt-leb, ltb-false}
 use lib.Dec.{ltb, leb}
 use lib.ListN.{length, take, drop}
 use lib.Seq.{take-all, length-take-le}
+use Rattle.commons.proofs.Bools.{or-neither}
 use Rattle.commons.proofs.Order.{lt-or-le}
 use Rattle.refusals.specs.declared.JournalError.{JournalError}
 use Rattle.refusals.specs.declared.JournalError.the-variants.{BadJournal, NotKept}
@@ -63,6 +64,33 @@ module _ (k : Title) (i : ℕ) (ws : List ℕ) where
       pub is-more : 120 < length ws → More ≡ lays k i ws
       unfolding lays
       is-more h = simp (ok, kept, lt-leb (length ws) 120 h)
+
+-- ---- and back: what is laid has passed the tests
+abbrev told : BlockLaid → ℕ
+told (Denied e) = 0
+told NoRoom = 0
+told More = 1
+told Last = 2
+
+module _ (k : Title) (i : ℕ) (ws : List ℕ) (t : Bool) (e : lays k i ws ≡ cond t Last More) where
+  -- each test that `lays` asks, and which answer it is
+  pub laid-by : (right k i ws ≡ true) × (not (isKey (k .key)) || ltb (30600 - 120 * i) (length ws) ≡ false) × (leb (length ws) 120 ≡ t)
+  unfolding lays
+  laid-by = at (right k i ws) (not (isKey (k .key)) || ltb (30600 - 120 * i) (length ws)) (leb (length ws) 120) t e
+    where
+      at : (a o l t : Bool) → cond a (cond o (Denied NotKept) (cond l Last More)) (Denied BadJournal) ≡ cond t Last More → (a ≡ true) × (o ≡ false) × (l ≡ t)
+      at true false true true e = (refl, refl, refl)
+      at true false false false e = (refl, refl, refl)
+      at true false true false e = absurd (let z : _≡_ {A = ℕ} 2 1 = ap told e in omega arith)
+      at true false false true e = absurd (let z : _≡_ {A = ℕ} 1 2 = ap told e in omega arith)
+      at true true l true e = absurd (let z : _≡_ {A = ℕ} 0 2 = ap told e in omega arith)
+      at true true l false e = absurd (let z : _≡_ {A = ℕ} 0 1 = ap told e in omega arith)
+      at false o l true e = absurd (let z : _≡_ {A = ℕ} 0 2 = ap told e in omega arith)
+      at false o l false e = absurd (let z : _≡_ {A = ℕ} 0 1 = ap told e in omega arith)
+
+  -- the blocks from i to 254 hold what is left
+  pub laid-room : length ws ≤ 30600 - 120 * i
+  laid-room = ltb-false (30600 - 120 * i) (length ws) (or-neither (not (isKey (k .key))) _ (laid-by .1) .1)
 
 -- ---- the room
 module _ (bytes : ℕ) (k : Title) (i : ℕ) (ws out : List ℕ) where

@@ -1,5 +1,6 @@
 -- Entries that spell a hand are the entries of lines, and of no others. Assumes nothing.
 use Prim.Native.Nat.{ℕ, zero, suc, _+_, _*_, _-_, _≤_, _<_, _/_, _%_}
+use Prim.Native.Char.{code}
 use native.Mathlib.Omega.{arith}
 use mathlib.Core.Path.{_≡_, refl, sym, ap, _∙_, subst}
 use mathlib.Core.Bool.{Bool, true, false, cond, not, _&&_, _||_}
@@ -10,8 +11,8 @@ use lib.Dec.{eqb, leb}
 use lib.ListN.{length, getD}
 use Rattle.journal.specs.Entry.{isLetter, isNumber, isEntry, entryWord, letter, number}
 use Rattle.journal.specs.Lines.{Line, countOk, allSmall, restOk, linesOk, lineWords, tapeOf, leading, linesOf, allowed, nameAfter, countAfter, stacksIn, stacksAfter, spelt, spells}
-use Rattle.commons.proofs.Bools.{either, differ}
-use Rattle.commons.proofs.Bools.{and-both}
+use Rattle.commons.proofs.Bools.{either, differ, never, and-both}
+use Rattle.commons.proofs.Order.{lt-or-le}
 
 abbrev pub numberWords : List ℕ → List ℕ
 numberWords ns = map (λ n. entryWord (number n)) ns
@@ -48,13 +49,13 @@ lines-numbers [] rest = refl
 lines-numbers (n ∷ ns) rest = rw (number-is n) (lines-numbers ns rest)
 
 -- a letter with its count is a letter and no number
-abbrev Letter : ℕ → Type 0
+abbrev pub Letter : ℕ → Type 0
 Letter l = (isLetter l ≡ true) × (isNumber l ≡ false)
 
 a-letter : (l m : ℕ) → l ≡ m → (isLetter m ≡ true) × (isNumber m ≡ false) → Letter l
 a-letter l m e h = rw e h
 
-letter-of : (l stacks count : ℕ) → countOk l stacks count ≡ true → Letter l
+pub letter-of : (l stacks count : ℕ) → countOk l stacks count ≡ true → Letter l
 unfolding countOk isLetter isNumber
 letter-of l stacks count e =
     ⊎-elim (λ (t : eqb l 116 ≡ true). a-letter l 116 (eqb-true l 116 t) (refl, refl))
@@ -77,6 +78,19 @@ letter-of l stacks count e =
     let e6 = rw y at e5 in
     a-letter l 120 (eqb-true l 120 (and-both (eqb l 120) (eqb count 0) e6 .0)) (refl, refl))
     (either (eqb l 102))) (either (eqb l 110))) (either (eqb l 112))) (either (eqb l 98))) (either (eqb l 119))) (either (eqb l 116))
+
+-- the letters of a hand stand from `b` to `x`
+not-letter : (w : ℕ) → ((k : ℕ) → 98 ≤ k → k ≤ 120 → w ≡ k → ⊥) → isLetter w ≡ false
+unfolding isLetter
+not-letter w f =
+    let at : (k : ℕ) → 98 ≤ k → k ≤ 120 → eqb w k ≡ false = λ k h g. ne-eqb w k (f k h g) in
+    simp (at 116 (omega arith) (omega arith), at 110 (omega arith) (omega arith), at 102 (omega arith) (omega arith), at 98 (omega arith) (omega arith), at 112 (omega arith) (omega arith), at 120 (omega arith) (omega arith), at 119 (omega arith) (omega arith))
+
+pub letter-in : (w : ℕ) → isLetter w ≡ true → (98 ≤ w) × (w ≤ 120)
+letter-in w e = (
+  ⊎-elim (λ (h : w < 98). absurd (differ (isLetter w) e (not-letter w (λ k a b q. omega arith)))) (λ (h : 98 ≤ w). h) (lt-or-le w 98),
+  ⊎-elim (λ (h : w < 121). omega arith) (λ (h : 121 ≤ w). absurd (differ (isLetter w) e (not-letter w (λ k a b q. omega arith)))) (lt-or-le w 121),
+)
 
 not-false′ : (t : Bool) → not t ≡ true → t ≡ false
 not-false′ true e = sym e
@@ -259,3 +273,63 @@ lines-back ls e = named-back ls (lines-named ls e)
 
 pub one-tape : (ls ms : List Line) → linesOk ls ≡ true → linesOk ms ≡ true → tapeOf ls ≡ tapeOf ms → ls ≡ ms
 one-tape ls ms e f q = sym (lines-back ls e) ∙ ap linesOf q ∙ lines-back ms f
+
+-- ---- lines of any letters and numbers that have their bits. A letter is not 0: as an entry that would be a number of the line before it
+abbrev pub Sized : Line → Type 0
+Sized m = (0 < m .name) × (m .name < 256) × (allSmall (m .numbers) ≡ true)
+
+abbrev pub AllSized : List Line → Type 0
+AllSized [] = Unit
+AllSized (m ∷ ms) = Sized m × AllSized ms
+
+sized-letter : (l : ℕ) → 0 < l → l < 256 → isNumber l ≡ false
+unfolding isNumber
+sized-letter l h g = ne-eqb (l % 65536) 0 (λ e. omega arith)
+
+sized-named : (ls : List Line) → AllSized ls → Named ls
+sized-named [] a = tt
+sized-named (m ∷ ms) a = (sized-letter (m .name) (a .0 .0) (a .0 .1), sized-named ms (a .1))
+
+-- such lines come back from their entries, be they a hand or not
+pub sized-back : (ls : List Line) → AllSized ls → linesOf (tapeOf ls) ≡ ls
+sized-back ls a = named-back ls (sized-named ls a)
+
+-- their entries have 32 bits
+abbrev Small : List ℕ → Type 0
+Small ws = (i : ℕ) → getD ws i 0 < 4294967296
+
+small-both : (xs ys : List ℕ) → Small xs → Small ys → Small (xs ++ ys)
+small-both [] ys f g i = g i
+small-both (x ∷ xs) ys f g zero = f 0
+small-both (x ∷ xs) ys f g (suc i) = small-both xs ys (λ j. f (suc j)) g i
+
+small-numbers : (ns : List ℕ) → allSmall ns ≡ true → Small (numberWords ns)
+unfolding allSmall
+small-numbers [] e i = omega arith
+small-numbers (n ∷ ns) e zero = let h = leb-true n 65535 (and-both _ _ e .0) in omega arith
+small-numbers (n ∷ ns) e (suc i) = small-numbers ns (and-both (leb n 65535) _ e .1) i
+
+small-line : (m : Line) → Sized m → Small (lineWords m)
+small-line m a zero = omega (arith, a .1)
+small-line m a (suc i) = small-numbers (m .numbers) (a .2) i
+
+small-tape : (ls : List Line) → AllSized ls → Small (tapeOf ls)
+unfolding tapeOf
+small-tape [] a i = omega arith
+small-tape (m ∷ ms) a i = small-both (lineWords m) (tapeOf ms) (small-line m (a .0)) (small-tape ms (a .1)) i
+
+-- so their entries spell a hand exactly when they are the lines of one
+pub spells-as : (ls : List Line) → AllSized ls → spells (tapeOf ls) ≡ linesOk ls
+spells-as ls a =
+    ⊎-elim (λ (e : linesOk ls ≡ true). lines-spell ls e ∙ sym e)
+    (λ (e : linesOk ls ≡ false).
+    never (spells (tapeOf ls)) (λ s. differ (linesOk ls) (ap linesOk (sym (sized-back ls a)) ∙ spells-lines (tapeOf ls) (small-tape ls a) s) e) ∙ sym e)
+    (either (linesOk ls))
+
+-- that letters are not 0 is needed: a `t` of three numbers and a line of letter 0 are no hand, and their entries are those of a `t` of four numbers
+abbrev pub zeroLetter : List Line
+zeroLetter = record { name = code "t"; numbers = 1 ∷ 2 ∷ 3 ∷ [] } ∷ record { name = 0; numbers = [] } ∷ []
+
+pub zero-letter : (spells (tapeOf zeroLetter) ≡ true) × (linesOk zeroLetter ≡ false)
+unfolding spells spelt allowed nameAfter countAfter stacksAfter stacksIn countOk isNumber isLetter tapeOf linesOk
+zero-letter = (refl, refl)

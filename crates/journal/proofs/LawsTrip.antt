@@ -58,7 +58,7 @@ unfolding spells
 spells-some [] e = absurd (let z : _≡_ {A = ℕ} 0 1 = cc in omega arith)
 spells-some (w ∷ ws) e = omega arith
 
-bit-most : (t : Bool) → bit t ≤ 1
+pub bit-most : (t : Bool) → bit t ≤ 1
 bit-most true = omega arith
 bit-most false = omega arith
 

@@ -16,9 +16,12 @@ pub mod LawsSpelt
 pub mod Hands
 pub mod LawsTape
 pub mod LawsReading
+pub mod LawsLeft
 pub mod LawsLay
 pub mod Images
 pub mod Damage
 pub mod Refusing
+pub mod GivenLines
+pub mod PutLines
 pub mod Promises
 pub mod Worked

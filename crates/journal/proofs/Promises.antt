@@ -3,6 +3,9 @@ use Rattle.commons.proofs.OneResult.{OneResult, same, only, _and_, past}
 use Rattle.journal.proofs as crate
 
 -- ---- src/block.rt
+pub is-same : OneResult crate.block.Title.is_same.ended crate.block.Title.is_same.Reads.Learnt
+is-same κs a x y = only same
+
 pub is-edition : OneResult crate.block.is_edition.ended crate.block.is_edition.Reads.Learnt
 is-edition κs a x y = only same
 

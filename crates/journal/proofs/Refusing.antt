@@ -10,7 +10,7 @@ use Rattle.commons.proofs.Order.{ltb-same}
 use Rattle.refusals.specs.declared.JournalError.the-variants.{BadJournal, NotKept}
 use Rattle.keys.specs.Keys.{isKey}
 use Rattle.journal.specs.Block.{isEdition, titleAt}
-use Rattle.journal.specs.Lines.{spells}
+use Rattle.journal.specs.Lines.{Line, spells, linesOk, tapeOf}
 use Rattle.journal.specs.Hand.{blockCount, writes, blocksIn, wordCount, handOk, reads}
 use Rattle.journal.specs.declared.block.Title.{Title}
 use Rattle.journal.specs.declared.hand.HandHead.{HandHead}
@@ -18,6 +18,7 @@ use Rattle.journal.specs.declared.hand.HandRead.{HandRead}
 use Rattle.journal.specs.declared.hand.HandRead.the-variants.{Refused, Hand}
 use Rattle.journal.specs.declared.hand.HandWritten.{HandWritten}
 use Rattle.journal.specs.declared.hand.HandWritten.the-variants.{Denied, NoRoom, Blocks}
+use Rattle.journal.proofs.LawsSpelt.{AllSized, spells-as}
 
 -- more than 30,600 entries are more than 255 blocks
 pub above : (n : ℕ) → ltb 30600 n ≡ ltb 255 (blockCount n)
@@ -65,6 +66,24 @@ module _ (k : Title) (ws : List ℕ) where
 
   pub unkept-if : isHand ≡ true → unkept ≡ true → writes k ws ≡ Denied NotKept
   unkept-if e f = writer-is ∙ (λ i. cond (e i) (cond (f i) (Denied NotKept) (Blocks (blockCount (length ws)))) (Denied BadJournal))
+
+-- ---- the writer on lines: any whose letters are bytes above 0 and whose numbers have 16 bits. Of letters this is needed: an entry 0 is a number (`zero-letter`)
+and-no : (t : Bool) → t && false ≡ false
+and-no true = refl
+and-no false = refl
+
+module _ (k : Title) (ls : List Line) (a : AllSized ls) where
+  -- their entries are a hand exactly when the lines are one
+  pub hand-as : isHand k (tapeOf ls) ≡ isEdition (k .edition) && linesOk ls
+  hand-as = ap (λ (t : Bool). isEdition (k .edition) && t) (spells-as ls a)
+
+  -- lines that are no hand are 27
+  pub lines-bad : linesOk ls ≡ false → writes k (tapeOf ls) ≡ Denied BadJournal
+  lines-bad e = bad-if k (tapeOf ls) (hand-as ∙ ap (λ (t : Bool). isEdition (k .edition) && t) e ∙ and-no (isEdition (k .edition)))
+
+  -- and in an edition that is known no others are
+  pub lines-bad-only : isEdition (k .edition) ≡ true → writes k (tapeOf ls) ≡ Denied BadJournal → linesOk ls ≡ false
+  lines-bad-only v e = ap (λ (t : Bool). t && linesOk ls) (sym v) ∙ sym hand-as ∙ bad-iff k (tapeOf ls) e
 
 -- ---- the reader: 27 exactly for what is no hand of blocks, and nothing else
 abbrev told : HandRead → ℕ

@@ -1,8 +1,8 @@
 -- Hands and blocks worked out by the definitions, the right ones beside those that a tempting reading would take. Assumes nothing.
-use Prim.Native.Nat.{ℕ, zero, suc, _+_}
+use Prim.Native.Nat.{ℕ, zero, suc, _+_, _-_}
 use mathlib.Core.Path.{_≡_, refl}
 use mathlib.Core.Bool.{Bool, true, false, cond, not, _&&_, _||_}
-use mathlib.Core.List.{List, [], _∷_, _++_}
+use mathlib.Core.List.{List, [], _∷_, _++_, map}
 use lib.Dec.{eqb, leb, ltb}
 use lib.ListN.{length, getD, set, take, drop, replicate}
 use Rattle.commons.specs.Folds.{allTo}
@@ -11,9 +11,18 @@ use Rattle.keys.specs.Keys.{keyOf}
 use Rattle.journal.specs.Check.{byte, sumOf, runOf, sumCheck, runCheck}
 use Rattle.journal.specs.Entry.{twoBytes, fourBytes, allBytes, isLetter, isNumber, isEntry, twoAt, fourAt}
 use Rattle.journal.specs.Block.{zeros, checked, headOf, bodyOf, blockOf, blockOk, zeroAt, entryFits, entriesFit}
-use Rattle.journal.specs.Lines.{Line, countOk, allSmall, restOk, linesOk, tapeOf, allowed, nameAfter, countAfter, stacksIn, stacksAfter, spelt, spells}
-use Rattle.journal.specs.Hand.{joined, blockAt, handBytes, writes, reads, sameTitle, blockSays, blockFits, blocksFit, wordIn, wordsFrom, wordCount, handOk}
+use Rattle.journal.specs.Lines.{Line, countOk, allSmall, restOk, linesOk, tapeOf, allowed, nameAfter, countAfter, stacksIn, stacksAfter, leading, spelt, spells}
+use Rattle.journal.specs.Hand.{joined, blockAt, handBytes, writes, reads, sameTitle, blockSays, blockFits, blocksFit, wordIn, wordsFrom, wordGiven, wordCount, handOk}
+use Rattle.journal.specs.Tape.{lineOk, noRoom, putLine}
+use Rattle.journal.specs.Lay.{allEntries, lays}
+use Rattle.journal.specs.Reading.{countGiven, givenFrom, lineFrom, lineRead}
+use Rattle.script.specs.Words.{firsts}
 use Rattle.journal.specs.declared.block.Title.{Title}
+use Rattle.journal.specs.declared.laying.BlockLaid.{BlockLaid}
+use Rattle.journal.specs.declared.laying.BlockLaid.the-variants.{Denied as Unlaid, NoRoom as NoBlock, More, Last}
+use Rattle.journal.specs.declared.tape.Put.{Put}
+use Rattle.journal.specs.declared.tape.Put.the-variants.{Denied as NoLine, NoRoom as NoPlace, Laid}
+use Rattle.journal.specs.declared.reading.LineRead.{LineRead}
 use Rattle.journal.specs.declared.hand.HandRead.{HandRead}
 use Rattle.journal.specs.declared.hand.HandRead.the-variants.{Refused, Hand}
 use Rattle.journal.specs.declared.hand.HandWritten.{HandWritten}
@@ -123,7 +132,7 @@ badReadings =
     ∷ mended (set one 11 2)
     ∷ mended (set one 8 255)
     ∷ mended (set one 9 2)
-    -- no entries; more than a block holds; an entry behind the count; a block that is not the last and not filled
+    -- no entries; more than a block holds; an entry behind the count; no last mark
     ∷ mended (set one 10 0)
     ∷ mended (set one 10 121)
     ∷ mended (set one 10 6)
@@ -139,8 +148,20 @@ allBad [] = true
 allBad (b ∷ bs) = eqb (read (reads b)) 27 && allBad bs
 
 right-refusals : allBad badReadings ≡ true
-unfolding reads handOk blocksFit blockFits blockOk zeroAt entriesFit entryFits isEntry isNumber isLetter allTo twoAt fourAt handBytes joined blockAt blockOf bodyOf headOf twoBytes fourBytes allBytes zeros
+unfolding reads handOk blocksFit blockFits blockSays sameTitle blockOk zeroAt entriesFit entryFits isEntry isNumber isLetter allTo twoAt fourAt sumCheck runCheck sumOf runOf handBytes joined blockAt blockOf bodyOf headOf twoBytes fourBytes allBytes zeros
 right-refusals = refl
+
+-- ---- a block that is not the last is filled. Of these two blocks the first says 119 entries; its check is right, and with the zero behind
+-- its `b` the entries would spell a hand, so that nothing else refuses it. With 120 it is one, of 121 entries
+abbrev unfilled : List ℕ
+unfilled = blockOf (title 2026 1) 0 0 (long 111 ++ (98 ∷ [])) ++ blockOf (title 2026 1) 1 1 (110 ∷ [])
+
+abbrev filled : List ℕ
+filled = blockOf (title 2026 1) 0 0 (long 111 ++ (98 ∷ 0 ∷ [])) ++ blockOf (title 2026 1) 1 1 (110 ∷ [])
+
+right-filling : map (λ b. read (reads b)) (unfilled ∷ filled ∷ []) ≡ 27 ∷ 1121 ∷ []
+unfolding reads handOk blocksFit blockFits blockSays sameTitle blockOk zeroAt entriesFit entryFits isEntry isNumber isLetter allTo twoAt fourAt sumCheck runCheck sumOf runOf wordCount wordsFrom wordIn spells spelt allowed nameAfter countAfter stacksAfter stacksIn countOk blockOf bodyOf headOf twoBytes fourBytes allBytes zeros
+right-filling = refl
 
 -- ---- what a block says of its place: whether it is block i of n of the hand
 pub record Said : Type 0 where
@@ -210,3 +231,109 @@ good = refl
 tape : tapeOf hand ≡ table ++ (112 ∷ 327680 ∷ 110 ∷ 98 ∷ 655360 ∷ 102 ∷ 119 ∷ 65536 ∷ 131072 ∷ [])
 unfolding tapeOf
 tape = refl
+
+-- ---- what is answered of a block that is laid alone: the refusal's number, 1,001 where another follows, 1,002 for the last
+abbrev answered : BlockLaid → ℕ
+answered (Unlaid e) = journalNumber e
+answered NoBlock = 0
+answered More = 1001
+answered Last = 1002
+
+pub record Laying : Type 0 where
+  pub year : ℕ
+  pub index : ℕ
+  pub left : List ℕ
+  pub answer : ℕ
+
+abbrev lay : ℕ → ℕ → List ℕ → ℕ → Laying
+lay year index left answer = record { year = year; index = index; left = left; answer = answer }
+
+abbrev layings : List Laying
+layings =
+    -- 120 entries make one block, one more asks for another
+    lay 2026 0 (long 113) 1002
+    ∷ lay 2026 0 (long 114) 1001
+    -- block 254 is the last that there is
+    ∷ lay 2026 254 (long 113) 1002
+    ∷ lay 2026 254 (long 114) 28
+    ∷ lay 2026 255 (110 ∷ []) 28
+    -- no key is 28; an entry that is none, or none at all, is 27, which comes first
+    ∷ lay 0 0 table 28
+    ∷ lay 2026 0 (table ++ (107 ∷ [])) 27
+    ∷ lay 0 255 (table ++ (107 ∷ [])) 27
+    ∷ lay 0 255 [] 27
+    -- what stands behind the 120 is not looked at yet
+    ∷ lay 2026 0 (long 113 ++ (107 ∷ [])) 1001
+    ∷ []
+
+abbrev rightLaying : Laying → Bool
+rightLaying c = eqb (answered (lays (title (c .year) 1) (c .index) (c .left))) (c .answer)
+
+abbrev allLaid : List Laying → Bool
+allLaid [] = true
+allLaid (c ∷ cs) = rightLaying c && allLaid cs
+
+right-layings : allLaid layings ≡ true
+unfolding lays allEntries allTo isEntry isNumber isLetter
+right-layings = refl
+
+-- ---- what is answered of a line laid behind 7 entries: 27, 0 for too little room, or 1,000 and the entries then
+abbrev put : Put → ℕ
+put (NoLine e) = journalNumber e
+put NoPlace = 0
+put (Laid n) = 1000 + n
+
+pub record Placing : Type 0 where
+  pub places : ℕ
+  pub name : ℕ
+  pub numbers : List ℕ
+  pub answer : ℕ
+
+abbrev place : ℕ → ℕ → List ℕ → ℕ → Placing
+place places name numbers answer = record { places = places; name = name; numbers = numbers; answer = answer }
+
+abbrev placings : List Placing
+placings =
+    -- `b 10` takes two places, of which one is not enough
+    place 9 98 (10 ∷ []) 1009
+    ∷ place 8 98 (10 ∷ []) 0
+    ∷ place 7 110 [] 0
+    ∷ place 6 110 [] 0
+    -- `n` with a number; `t` with three numbers and with four; a `k`; 27 comes before the room
+    ∷ place 9 110 (0 ∷ []) 27
+    ∷ place 20 116 (0 ∷ 0 ∷ 0 ∷ []) 27
+    ∷ place 20 116 (0 ∷ 0 ∷ 0 ∷ 0 ∷ []) 1012
+    ∷ place 20 107 (0 ∷ 0 ∷ 0 ∷ []) 27
+    ∷ place 0 110 (0 ∷ []) 27
+    -- `w` with any count
+    ∷ place 20 119 [] 1008
+    ∷ place 20 119 (1 ∷ 2 ∷ 3 ∷ []) 1011
+    ∷ []
+
+abbrev rightPlacing : Placing → Bool
+rightPlacing c = eqb (put (putLine (c .places) 7 (c .name) (c .numbers))) (c .answer)
+
+abbrev allPlaced : List Placing → Bool
+allPlaced [] = true
+allPlaced (c ∷ cs) = rightPlacing c && allPlaced cs
+
+right-placings : allPlaced placings ≡ true
+unfolding putLine lineOk noRoom countOk
+right-placings = refl
+
+-- ---- the lines of `hand` as they are played: the first, the next, the last; at the end there is none, and the place stays
+abbrev line : ℕ → List ℕ → ℕ → LineRead
+line name numbers next = record { words = record { letter = name; count = length numbers; numbers = numbers ++ replicate (20 - length numbers) 0 }; next = next }
+
+abbrev played : List LineRead
+played =
+    line 116 (0 ∷ 10 ∷ 5 ∷ 0 ∷ 300 ∷ 65535 ∷ []) 7
+    ∷ line 112 (5 ∷ []) 9
+    ∷ line 119 (1 ∷ 2 ∷ []) 16
+    ∷ line 0 [] 16
+    ∷ line 0 [] 17
+    ∷ []
+
+right-lines : map (lineRead (handBytes (title 2026 1) (tapeOf hand))) (0 ∷ 7 ∷ 13 ∷ 16 ∷ 17 ∷ []) ≡ played
+unfolding lineRead lineFrom givenFrom countGiven wordGiven wordCount wordIn leading firsts isNumber fourAt handBytes joined blockAt blockOf bodyOf headOf twoBytes fourBytes allBytes zeros tapeOf
+right-lines = refl

@@ -4,6 +4,7 @@ ghost use lib.ListN.{length};
 ghost use Rattle.journal.specs.Check.{byte};
 ghost use Rattle.journal.specs.Block.{isEdition, entriesFit, blockOk};
 ghost use Rattle.journal.specs.Read.{headAt, readOf};
+ghost use Rattle.journal.specs.Hand.{sameTitle};
 use crate::heads;
 use crate::sums;
 use crate::words;
@@ -14,6 +15,15 @@ use refusals::JournalError;
 pub struct Title {
     pub key: HandKey,
     pub edition: u8,
+}
+
+impl Title {
+    pub fn is_same(self, other: Title) -> bool
+        ensures { λ r. ⌜ r ≡ sameTitle self other ⌝ }
+    {
+        let key = self.key;
+        key.is_same(other.key) & (self.edition == other.edition)
+    }
 }
 
 // What a block says of itself.

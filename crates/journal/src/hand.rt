@@ -7,7 +7,7 @@ ghost use lib.Dec.{eqb};
 ghost use lib.ListN.{length, drop};
 ghost use Rattle.journal.specs.Block.{titleAt};
 ghost use Rattle.journal.specs.Lines.{spells};
-ghost use Rattle.journal.specs.Hand.{blockCount, joined, blockAt, sameTitle, blockSays, blockFits, blocksIn, blocksFit, wordIn, wordCount, wordsOf, wordsFrom, wordGiven, handOk, reads, writesInto, bytesAfter};
+ghost use Rattle.journal.specs.Hand.{blockCount, joined, blockAt, blockSays, blockFits, blocksIn, blocksFit, wordIn, wordCount, wordsOf, wordsFrom, wordGiven, handOk, reads, writesInto, bytesAfter};
 use crate::block;
 use crate::block::Title;
 use crate::fill;
@@ -89,14 +89,6 @@ pub fn write_hand(title: Title, tape: &[u32], out: &mut [u8]) -> HandWritten
 
 // ---- the reader
 
-fn is_same_title(k: Title, m: Title) -> bool
-    ensures { λ r. ⌜ r ≡ sameTitle k m ⌝ }
-{
-    let a = k.key;
-    let b = m.key;
-    a.is_same(b) & (k.edition == m.edition)
-}
-
 // Whether a block says that it is block i of n of a hand with this title.
 fn says(title: Title, n: usize, i: usize, part: &[u8]) -> bool
     requires { ⌜ i < n ⌝ }
@@ -104,7 +96,7 @@ fn says(title: Title, n: usize, i: usize, part: &[u8]) -> bool
     ensures { λ r. ⌜ r ≡ blockSays title n i (now (part .entry)) ⌝ }
 {
     let k = heads::title_at(part);
-    (words::wide(part[8]) == i) & ((part[9] == words::bit_of(i + 1 == n)) & is_same_title(k, title))
+    (words::wide(part[8]) == i) & ((part[9] == words::bit_of(i + 1 == n)) & k.is_same(title))
 }
 
 // Whether bytes are block i of n of a hand with this title.

@@ -2,27 +2,21 @@
 use Prim.Native.Nat.{ℕ, _+_, _*_, _-_, _≤_, _<_, _/_, _%_}
 use native.Mathlib.Omega.{arith}
 use mathlib.Core.Path.{_≡_, refl, sym, ap, _∙_}
-use mathlib.Core.Logic.{⊎-elim}
-use mathlib.Core.Bool.{Bool, true, false, cond, not, _&&_, _||_}
+use mathlib.Core.Bool.{Bool, true, false, cond, not}
 use mathlib.Core.List.{List, [], _∷_, _++_}
-use borrow.Author.Tests.{lt-ltb, le-ltb, le-leb, lt-leb, eq-eqb, ne-eqb}
+use borrow.Author.Tests.{lt-ltb, le-ltb, le-leb, ne-eqb}
 use lib.Dec.{leb, ltb, eqb}
-use lib.ListN.{length, getD, set, take, drop, length-take, length-drop}
-use lib.Seq.{getD-take, getD-drop}
+use lib.ListN.{length, set, drop, length-append, length-drop}
 use Rattle.commons.specs.Filled.{copied}
-use Rattle.commons.specs.Folds.{allTo}
-use Rattle.commons.proofs.Folds.{all-hold}
-use Rattle.commons.proofs.Order.{lt-or-le}
-use Rattle.keys.specs.Keys.{isKey}
 use Rattle.journal.specs.declared.block.Title.{Title}
 use Rattle.journal.specs.declared.hand.HandWritten.the-variants.{Blocks}
 use Rattle.journal.specs.declared.laying.BlockLaid.the-variants.{More, Last}
-use Rattle.journal.specs.Block.{isEdition, bit, blockOf}
-use Rattle.journal.specs.Entry.{isEntry}
-use Rattle.journal.specs.Hand.{blockCount, joined, piece, blockAt, handBytes, writes, room, writesInto, bytesAfter, reads}
-use Rattle.journal.specs.Lay.{allEntries, blockLaid, lays, layRoom, laysInto, layAfter}
+use Rattle.journal.specs.Block.{bit}
+use Rattle.journal.specs.Hand.{blockCount, joined, blockAt, handBytes, writes, room, writesInto, bytesAfter, reads}
+use Rattle.journal.specs.Lay.{blockLaid, lays, layRoom, laysInto, layAfter}
 use Rattle.journal.proofs.Hands.{KeyFits, writes-kept, round-trip}
-use Rattle.journal.proofs.LawsTrip.{Kept, spells-entries}
+use Rattle.journal.proofs.LawsTrip.{Kept, block-is}
+use Rattle.journal.proofs.Images.{laid-alone, laid-says, held-block, held-says}
 use Rattle.layout.specs.Words.{wordAt, wordOf}
 use Rattle.peatcloak.specs.Writing.{Wrote, wrote, titleFits, titleIn, handNumber, handOut, writeHandOn, blockNumber, blockOut, writeBlockOn}
 use Rattle.peatcloak.specs.Reading.{Told, told, titled, handWords, handReadNumber, handReadTold, readHandOn}
@@ -66,48 +60,41 @@ module _ (ts tape : List ℕ) (word : wordAt ts 2 < 4294967296) (n : ℕ) (e : w
     abbrev rest : List ℕ
     rest = drop (120 * i) tape
 
-    left : length rest ≡ length tape - 120 * i
-    left = length-drop (120 * i) tape
-
-    is-last : leb (length rest) 120 ≡ eqb (i + 1) n
-    is-last =
-        let l = left in
-        let c = count in
-        ⊎-elim (λ (h : 120 < length rest). lt-leb (length rest) 120 h ∙ sym (ne-eqb (i + 1) n (λ z. omega arith))) (λ (h : length rest ≤ 120). le-leb (length rest) 120 h ∙ sym (eq-eqb (i + 1) n (omega arith))) (lt-or-le 120 (length rest))
+    in-hand : i < blockCount (length tape)
+    in-hand = let c = count in omega arith
 
     low-index : ltb i 256 ≡ true
-    low-index = let c = count in let m = kept .most in lt-ltb i 256 (omega arith)
+    low-index = let m = kept .most in let h = in-hand in lt-ltb i 256 (omega arith)
 
     pub block-alike : blockLaid k i rest ≡ blockAt k tape n i
-    unfolding blockLaid blockAt
-    block-alike = λ j. blockOf k i (bit (is-last j)) (take 120 rest)
+    block-alike = laid-alone k tape kept i in-hand ∙ block-is k tape kept i in-hand ∙ λ j. blockAt k tape (sym count j) i
 
-    entries : allEntries (take 120 rest) ≡ true
-    unfolding allEntries
-    entries =
-        all-hold (length (take 120 rest)) (λ j. isEntry (getD (take 120 rest) j 0))
-        (λ j h.
-        let l = left in
-        let t : j < 120 = omega (arith, length-take 120 rest) in
-        ap isEntry (getD-take 120 rest j 0 t ∙ getD-drop (120 * i) tape j 0) ∙ spells-entries tape (kept .lines) (120 * i + j) (omega (arith, length-take 120 rest)))
+    says : lays k i rest ≡ cond (eqb (i + 1) n) Last More
+    says = laid-says k tape kept i in-hand ∙ λ j. cond (eqb (i + 1) (sym count j)) Last More
 
-    lays-it : lays k i rest ≡ cond (leb (length rest) 120) Last More
-    unfolding lays
-    lays-it =
-        let l = left in
-        let c = count in
-        let m = kept .most in
-        simp (kept .edition, le-leb 1 (length rest) (omega arith), entries, ne-eqb (k .key .year) 0 (kept .keyed), le-ltb (30600 - 120 * i) (length rest) (omega arith))
-
-    -- out tells whether another follows
     module _ (bytes out : List ℕ) (one : 1 ≤ length out) (roomy : 512 ≤ length bytes) where
-      abbrev comes : Bool → Wrote
-      comes last = wrote 0 (blockLaid k i rest ++ drop 512 bytes) (set out 0 (bit (not last)))
-
-      laid-so : (last : Bool) → lays k i rest ≡ cond last Last More → writeBlockOn ts i rest bytes out ≡ comes last
+      -- out tells whether another follows
+      laid-so : (held : List ℕ) (last : Bool) → lays k i held ≡ cond last Last More → writeBlockOn ts i held bytes out ≡ wrote 0 (blockLaid k i held ++ drop 512 bytes) (set out 0 (bit (not last)))
       unfolding writeBlockOn laysInto layRoom layAfter blockNumber blockOut
-      laid-so true h = simp (le-leb 1 (length out) one, low-index, title, h, le-ltb (length bytes) 512 roomy)
-      laid-so false h = simp (le-leb 1 (length out) one, low-index, title, h, le-ltb (length bytes) 512 roomy)
+      laid-so held true h = simp (le-leb 1 (length out) one, low-index, title, h, le-ltb (length bytes) 512 roomy)
+      laid-so held false h = simp (le-leb 1 (length out) one, low-index, title, h, le-ltb (length bytes) 512 roomy)
 
       pub block-written : writeBlockOn ts i rest bytes out ≡ wrote 0 (blockAt k tape n i ++ drop 512 bytes) (set out 0 (bit (not (eqb (i + 1) n))))
-      block-written = laid-so (leb (length rest) 120) lays-it ∙ λ j. wrote 0 (block-alike j ++ drop 512 bytes) (set out 0 (bit (not (is-last j))))
+      block-written = laid-so rest (eqb (i + 1) n) says ∙ λ j. wrote 0 (block-alike j ++ drop 512 bytes) (set out 0 (bit (not (eqb (i + 1) n))))
+
+      -- a console may hold a part of what is left, if it is more than a block
+      pub held-written : (held more : List ℕ) → rest ≡ held ++ more → 120 < length held → writeBlockOn ts i held bytes out ≡ wrote 0 (blockAt k tape n i ++ drop 512 bytes) (set out 0 1)
+      held-written held more q h =
+          let room = left-fits in
+          let s : lays k i held ≡ lays k i rest = held-says k i held more h (rw q at room) ∙ λ j. lays k i (sym q j) in
+          let b : blockLaid k i held ≡ blockAt k tape n i = held-block k i held more h ∙ (λ j. blockLaid k i (sym q j)) ∙ block-alike in
+          laid-so held false (s ∙ goes-on) ∙ λ j. wrote 0 (b j ++ drop 512 bytes) (set out 0 1)
+        where
+          left-fits : length rest ≤ 30600 - 120 * i
+          left-fits = let m = kept .most in omega (arith, length-drop (120 * i) tape)
+
+          long : 120 < length rest
+          long = let e : length rest ≡ length held + length more = ap length q ∙ length-append held more in omega arith
+
+          goes-on : lays k i rest ≡ More
+          goes-on = let c = count in let l = long in says ∙ ap (λ (t : Bool). cond t Last More) (ne-eqb (i + 1) n (λ z. omega (arith, length-drop (120 * i) tape)))

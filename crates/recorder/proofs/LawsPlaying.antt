@@ -20,7 +20,8 @@ use Rattle.journal.specs.Reading.{lineRead}
 use Rattle.recorder.specs.declared.replaying.Replayed.{Replayed}
 use Rattle.recorder.specs.Hands.{answered, after}
 use Rattle.recorder.specs.Replay.{replayed, playedOn, freshWith, replayOf, linesIn, replayRead, replayBytes}
-use Rattle.recorder.proofs.LawsBytes.{At, left, at-first, left-first, left-none, at-next, left-next, next-up}
+use Rattle.journal.proofs.LawsLeft.{At, left, count-is, at-first, left-first, left-none, at-next, left-next}
+use Rattle.journal.proofs.GivenLines.{moves}
 
 -- ---- one line of some
 accepted-first : (n : ℕ) (s : State) (w : Words) (ws : List Words) → answered w s ≡ 0 → playedOn n s (w ∷ ws) ≡ playedOn (n + 1) (after w s) ws
@@ -51,7 +52,7 @@ module _ (b : List ℕ) (h : HandHead) (e : reads b ≡ Hand h) where
       here = left-next b h e at l (p .place) ∙ (λ i. sym r i .words ∷ left b (h .entries) (sym r i .next))
 
       pub goes-up : at < read .next
-      goes-up = rw r (next-up b h e at l (p .place))
+      goes-up = rw r (moves b at (omega (arith, count-is b h e)) .0)
 
       pub stops : (act .number ≡ 0 → ⊥) → replayed (act .number) lines s ≡ replayOf (h .title .key) (linesIn b)
       stops n = (λ i. replayed (a i .number) lines s) ∙ sym (refused-first lines s (read .words) (left b (h .entries) (read .next)) (λ z. n ((λ i. a i .number) ∙ z))) ∙ sym (ap (playedOn lines s) here) ∙ p .same

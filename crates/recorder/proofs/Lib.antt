@@ -14,8 +14,8 @@ pub mod LawsTakes
 pub mod LawsSpells
 pub mod LawsKeys
 pub mod LawsReplay
-pub mod LawsBytes
 pub mod LawsPlaying
+pub mod LawsReplayed
 pub mod Asking
 pub mod Recorder
 pub mod Examples

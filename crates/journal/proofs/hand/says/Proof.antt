@@ -22,12 +22,12 @@ add-bit-of c = search needs
 bit-of-requires : tie.Need-bit-of-requires
 bit-of-requires c κs = search needs
 
-is-same-title-requires : tie.Need-is-same-title-requires
-is-same-title-requires c κs = search needs
+is-same-requires : tie.Need-is-same-requires
+is-same-requires c κs = search needs
 
 returns : tie.Need-returns
 unfolding blockSays
-returns c = rw (c .is-same-title .ensures, c .before .bit-of .ensures, c .before .before .before .wide .ensures .0, c .before .before .before .before .before .title-at .ensures)
+returns c = rw (c .is-same .ensures, c .before .bit-of .ensures, c .before .before .before .wide .ensures .0, c .before .before .before .before .before .title-at .ensures)
 
 pub says-spec : {M : Type 1} → statement M
 says-spec =
@@ -39,5 +39,5 @@ says-spec =
     shared-slice-read-result
     add-bit-of
     bit-of-requires
-    is-same-title-requires
+    is-same-requires
     returns)

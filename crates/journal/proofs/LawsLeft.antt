@@ -3,31 +3,27 @@
 use Prim.Native.Nat.{ℕ, zero, suc, _+_, _*_, _-_, _/_, _%_, _≤_, _<_}
 use native.Mathlib.Omega.{arith}
 use mathlib.Core.Path.{_≡_, refl, sym, ap, _∙_, subst}
-use mathlib.Core.Logic.{⊎-elim}
-use mathlib.Core.Bool.{Bool, true, false, cond, _||_}
+use mathlib.Core.Bool.{Bool, true, false}
 use mathlib.Core.List.{List, [], _∷_, map}
-use borrow.Author.Tests.{ne-eqb, eqb-true, leb-true, lt-leb}
+use borrow.Author.Tests.{eqb-true, leb-true, lt-leb}
 use lib.Dec.{eqb}
-use lib.ListN.{length, getD, drop}
-use lib.Seq.{drop-nil}
-use Rattle.commons.proofs.Bools.{differ, and-both}
-use Rattle.commons.proofs.Order.{lt-or-le}
+use lib.ListN.{length, getD, drop, length-drop}
+use lib.Seq.{drop-nil, getD-drop}
+use Rattle.commons.proofs.Bools.{and-both}
 use Rattle.commons.proofs.Tests.{test-at}
-use Rattle.refusals.specs.declared.JournalError.the-variants.{BadJournal}
 use Rattle.script.specs.declared.line.Words.{Words}
 use Rattle.journal.specs.declared.hand.HandHead.{HandHead}
-use Rattle.journal.specs.declared.hand.HandRead.the-variants.{Refused, Hand}
+use Rattle.journal.specs.declared.hand.HandRead.the-variants.{Hand}
 use Rattle.journal.specs.declared.reading.LineRead.{LineRead}
-use Rattle.journal.specs.Block.{titleAt}
 use Rattle.journal.specs.Entry.{isLetter, isNumber, isEntry}
 use Rattle.journal.specs.Hand.{blocksIn, wordIn, wordsFrom, wordGiven, wordCount, wordsOf, handTests, handOk, reads}
 use Rattle.journal.specs.Lines.{leading, linesOf, spells}
-use Rattle.journal.specs.Reading.{asPlayed, givenFrom, restFrom, lineFrom, lineRead}
+use Rattle.journal.specs.Reading.{asPlayed, countGiven, givenFrom, restFrom, lineFrom, lineRead}
+use Rattle.journal.proofs.Hands.{read-ok}
 use Rattle.journal.proofs.LawsReads.{last-used}
 use Rattle.journal.proofs.LawsReading.{some-there, rest-next, rest-done}
+use Rattle.journal.proofs.LawsSpelt.{letter-in}
 use Rattle.journal.proofs.LawsTrip.{spells-entries}
-use Rattle.recorder.specs.Replay.{linesIn}
-use Rattle.recorder.proofs.LawsHands.{Each, none, more}
 
 -- ---- entries that begin with a letter, or none
 pub data Starts : List ℕ → Type 0 where
@@ -47,15 +43,12 @@ past-numbers (w ∷ ws) = at (isNumber w) refl (past-numbers ws)
 
 -- an entry that is no number is a letter, and has one byte
 letter-small : (w : ℕ) → isEntry w ≡ true → isNumber w ≡ false → w % 256 ≡ w
-unfolding isEntry isLetter
-letter-small w e n =
-    ⊎-elim (λ h. omega arith)
-    (λ h. absurd (differ (isNumber w || isLetter w) e (simp (n, ne-eqb w 116 (λ e. omega arith), ne-eqb w 110 (λ e. omega arith), ne-eqb w 102 (λ e. omega arith), ne-eqb w 98 (λ e. omega arith), ne-eqb w 112 (λ e. omega arith), ne-eqb w 120 (λ e. omega arith), ne-eqb w 119 (λ e. omega arith)))))
-    (lt-or-le w 256)
+unfolding isEntry
+letter-small w e n = let l : isLetter w ≡ true = rw n at e in omega (arith, letter-in w l)
 
 -- ---- the first line of some entries, and those past it
 abbrev pub Entries : List ℕ → Type 0
-Entries = Each (λ w. isEntry w ≡ true)
+Entries ws = (i : ℕ) → i < length ws → isEntry (getD ws i 0) ≡ true
 
 abbrev pub played : List ℕ → List Words
 played ws = map asPlayed (linesOf ws)
@@ -69,17 +62,11 @@ first-line i w ws n e =
 starts-so : {w : ℕ} {ws : List ℕ} → Starts (w ∷ ws) → isNumber w ≡ false
 starts-so (letter e) = e
 
-entry-so : {w : ℕ} {ws : List ℕ} → Entries (w ∷ ws) → (isEntry w ≡ true) × Entries ws
-entry-so (more p a) = (p, a)
+entry-so : (w : ℕ) (ws : List ℕ) → Entries (w ∷ ws) → (isEntry w ≡ true) × Entries ws
+entry-so w ws f = (f 0 (omega arith), λ i h. f (suc i) (omega arith))
 
-past-entries : (j : ℕ) {ws : List ℕ} → Entries ws → Entries (drop j ws)
-past-entries zero a = a
-past-entries (suc j) none = none
-past-entries (suc j) (more p a) = past-entries j a
-
-each-at : (ws : List ℕ) → ((i : ℕ) → i < length ws → isEntry (getD ws i 0) ≡ true) → Entries ws
-each-at [] f = none
-each-at (w ∷ ws) f = more (f 0 (omega arith)) (each-at ws (λ i h. f (suc i) (omega arith)))
+past-entries : (j : ℕ) (ws : List ℕ) → Entries ws → Entries (drop j ws)
+past-entries j ws f i h = rw (getD-drop j ws i 0) (f (j + i) (omega (arith, length-drop j ws)))
 
 -- ---- the entries of bytes from a place on
 given-drop : (b : List ℕ) (j i n : ℕ) → drop j (givenFrom b i n) ≡ givenFrom b (i + j) (n - j)
@@ -112,12 +99,7 @@ left b total i = played (restFrom b i total)
 
 module _ (b : List ℕ) (h : HandHead) (e : reads b ≡ Hand h) where
   head-so : (handOk b ≡ true) × (wordCount b ≡ h .entries)
-  unfolding reads
-  head-so = at (handOk b) refl e
-    where
-      at : (t : Bool) → handOk b ≡ t → cond t (Hand (record { title = titleAt b; blocks = blocksIn b; entries = wordCount b })) (Refused BadJournal) ≡ Hand h → (handOk b ≡ true) × (wordCount b ≡ h .entries)
-      at true q e = (q, let f : record { title = titleAt b; blocks = blocksIn b; entries = wordCount b } ≡ h = cc in λ i. f i .entries)
-      at false q e = absurd (let z : _≡_ {A = ℕ} 0 1 = cc in omega arith)
+  head-so = let q = read-ok b h e in (q .0, ap (λ (k : HandHead). k .entries) (q .1))
 
   test : (k : ℕ) → getD (handTests b) k true ≡ true
   unfolding handOk
@@ -136,17 +118,20 @@ module _ (b : List ℕ) (h : HandHead) (e : reads b ≡ Hand h) where
   all-there : restFrom b 0 total ≡ wordsOf b
   all-there = let z : total - 0 ≡ wordCount b = omega (arith, head-so .1) in rw z (given-is b (wordCount b) 0 (omega (arith, within, head-so .1)))
 
+  pub count-is : countGiven b ≡ h .entries
+  count-is = sym (some-there b some) ∙ head-so .1
+
   line-is : (i : ℕ) → lineRead b i ≡ lineFrom i (restFrom b i total)
   unfolding lineRead
-  line-is i = ap (λ (n : ℕ). lineFrom i (restFrom b i n)) (sym (some-there b some) ∙ head-so .1)
+  line-is i = ap (λ (n : ℕ). lineFrom i (restFrom b i n)) count-is
 
   pub at-first : At b total 0
   at-first = record {
     starts = subst Starts (sym all-there) (table-starts (wordsOf b) (test 3));
-    entries = subst Entries (sym all-there) (each-at (wordsOf b) (spells-entries (wordsOf b) (test 3)));
+    entries = subst Entries (sym all-there) (spells-entries (wordsOf b) (test 3));
   }
 
-  pub left-first : left b total 0 ≡ linesIn b
+  pub left-first : left b total 0 ≡ played (wordsOf b)
   left-first = ap played all-there
 
   pub left-none : (i : ℕ) → total ≤ i → left b total i ≡ []
@@ -167,7 +152,7 @@ module _ (b : List ℕ) (h : HandHead) (e : reads b ≡ Hand h) where
     no-number = starts-so (subst Starts here (a .starts))
 
     all-entries : (isEntry w ≡ true) × Entries ws
-    all-entries = entry-so (subst Entries here (a .entries))
+    all-entries = entry-so w ws (subst Entries here (a .entries))
 
     next-is : lineRead b i .next ≡ i + 1 + length (leading ws)
     unfolding lineFrom
@@ -180,12 +165,9 @@ module _ (b : List ℕ) (h : HandHead) (e : reads b ≡ Hand h) where
         given-drop b j (i + 1) (total - (i + 1)) ∙ ap (givenFrom b (i + 1 + j)) n ∙ ap (λ (k : ℕ). restFrom b k total) (sym next-is)
 
     pub at-next : At b total (lineRead b i .next)
-    at-next = record { starts = subst Starts past (past-numbers ws .0); entries = subst Entries past (past-entries (length (leading ws)) (all-entries .1)) }
+    at-next = record { starts = subst Starts past (past-numbers ws .0); entries = subst Entries past (past-entries (length (leading ws)) ws (all-entries .1)) }
 
     pub left-next : left b total i ≡ lineRead b i .words ∷ left b total (lineRead b i .next)
     left-next =
         ap played here ∙ first-line i w ws no-number (all-entries .0)
         ∙ (λ j. (ap (λ (r : LineRead). r .words) (sym (line-is i ∙ ap (lineFrom i) here)) j) ∷ played (past j))
-
-    pub next-up : i < lineRead b i .next
-    next-up = omega (arith, next-is)
