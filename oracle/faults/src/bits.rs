@@ -3,7 +3,7 @@
 use lists::journal::hand;
 use peatcloak::journal::{HandReader, JournalError};
 
-use crate::{Tried, hands};
+use crate::{Tried, hands, progress};
 
 /// Two filled blocks and a part of a third.
 const ENTRIES: usize = 300;
@@ -15,6 +15,7 @@ pub fn try_all() -> Tried {
         return Err("the second writer writes other bytes".into());
     }
     for bit in 0..8 * bytes.len() {
+        progress::tell("bits", bit, 8 * bytes.len());
         bytes[bit / 8] ^= 1 << (bit % 8);
         if HandReader::new(&bytes) != Err(JournalError::BadJournal) || hand::read(&bytes).is_ok() {
             return Err(format!("bit {} of byte {} is not found", bit % 8, bit / 8));

@@ -1,8 +1,8 @@
 //! A card of 200 hands, cut at every byte.
 
-use peatcloak::journal::first_hand;
+use peatcloak::journal::{JournalError, Title, first_hand};
 
-use crate::{Tried, hands};
+use crate::{Tried, hands, progress};
 
 pub const HANDS: u32 = 200;
 
@@ -21,26 +21,37 @@ pub fn card() -> Result<(Vec<u8>, Vec<usize>), String> {
     Ok((bytes, ends))
 }
 
-/// How many hands read from the front on, in order, and whether nothing is left behind them.
-pub fn read(card: &[u8]) -> (usize, bool) {
+/// How many hands read from the front on, in order, and whether nothing is left behind them. What is left must be 27.
+fn read(card: &[u8]) -> Result<(usize, bool), String> {
     let (mut rest, mut hands) = (card, 0);
-    while let Ok((hand, behind)) = first_hand(rest) {
-        if hand.title().key.hand as usize != hands + 1 {
-            return (hands, false);
+    loop {
+        match first_hand(rest) {
+            Ok((hand, behind)) if hand.title() == Title::new(hands::key_of(hands as u32 + 1)) => {
+                (rest, hands) = (behind, hands + 1);
+            }
+            Ok((hand, _)) => return Err(format!("behind hand {hands} reads {:?}", hand.title())),
+            Err(JournalError::BadJournal) => return Ok((hands, rest.is_empty())),
+            Err(other) => return Err(format!("behind hand {hands} it is {other}, not 27")),
         }
-        (rest, hands) = (behind, hands + 1);
     }
-    (hands, rest.is_empty())
+}
+
+fn try_one(bytes: &[u8], ends: &[usize]) -> Result<(), String> {
+    let whole = ends.iter().filter(|&&end| end <= bytes.len()).count();
+    let is_end = bytes.is_empty() || ends.contains(&bytes.len());
+    let (hands, is_all) = read(bytes)?;
+    if (hands, is_all) == (whole, is_end) {
+        return Ok(());
+    }
+    Err(format!("{hands} hands read and not {whole}; all is read: {is_all} and not {is_end}"))
 }
 
 pub fn try_all() -> Tried {
     let (bytes, ends) = card()?;
     for length in 0..=bytes.len() {
-        let whole = ends.iter().filter(|&&end| end <= length).count();
-        let is_end = length == 0 || ends.contains(&length);
-        if read(&bytes[..length]) != (whole, is_end) {
-            return Err(format!("cut to {length} bytes: {:?}", read(&bytes[..length])));
-        }
+        progress::tell("cuts", length, bytes.len() + 1);
+        try_one(&bytes[..length], &ends).map_err(|why| format!("cut to {length} bytes: {why}"))?;
     }
-    Ok(format!("{} cuts of a card of {HANDS} hands, {} blocks", bytes.len() + 1, bytes.len() / 512))
+    let (cuts, blocks) = (bytes.len() + 1, bytes.len() / 512);
+    Ok(format!("{cuts} cuts of a card of {HANDS} hands, {blocks} blocks; each torn one 27"))
 }

@@ -9,8 +9,14 @@ use peatcloak::journal::{Hand, JournalError, Title};
 /// The smallest hand: a `t` with four numbers.
 pub const SMALLEST: usize = 5;
 
-fn key(number: u32) -> Key {
+pub fn key(number: u32) -> Key {
     Key::new(3, 2026, number)
+}
+
+/// The same key, as the library has it.
+pub fn key_of(number: u32) -> HandKey {
+    let Key { code, year, hand } = key(number);
+    HandKey { code, year, hand }
 }
 
 /// So many entries: a `t` with no stacks, then bets of one number and an `n` where one entry is left over.
@@ -26,8 +32,7 @@ pub fn lines(entries: usize) -> Vec<Line> {
 
 /// Written through the library.
 pub fn ours(number: u32, lines: &[Line]) -> Result<Vec<u8>, JournalError> {
-    let Key { code, year, hand } = key(number);
-    let mut written = Hand::new(Title::new(HandKey { code, year, hand }));
+    let mut written = Hand::new(Title::new(key_of(number)));
     for line in lines {
         written.push(line.letter, &line.numbers)?;
     }

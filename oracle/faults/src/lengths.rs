@@ -2,7 +2,7 @@
 
 use peatcloak::journal::{HAND_ENTRIES, HandReader, JournalError};
 
-use crate::{Tried, hands};
+use crate::{Tried, hands, progress};
 
 /// The second writer is slow: it is asked of the short ones, of those about a block's end, and of some others.
 fn is_compared(entries: usize) -> bool {
@@ -33,7 +33,10 @@ fn try_one(entries: usize) -> Result<(), String> {
 pub fn try_all() -> Tried {
     let lengths = hands::SMALLEST..=HAND_ENTRIES;
     let compared = lengths.clone().filter(|&entries| is_compared(entries)).count();
-    lengths.clone().try_for_each(try_one)?;
+    for entries in lengths.clone() {
+        progress::tell("lengths", entries, HAND_ENTRIES);
+        try_one(entries)?;
+    }
     let above = hands::lines(HAND_ENTRIES + 1);
     if hands::ours(1, &above) != Err(JournalError::NotKept) || hands::theirs(1, &above) != Err(28) {
         return Err(format!("{} entries are not 28", HAND_ENTRIES + 1));

@@ -2,8 +2,10 @@
 //! Nothing is taken over from the port.
 
 pub mod block;
+pub mod card;
 pub mod entry;
 pub mod hand;
+pub mod script;
 #[cfg(test)]
 mod tests;
 

@@ -50,7 +50,8 @@ impl Player {
         format!("{} {number} {}\n", self.lines, shown(self.table.as_ref()))
     }
 
-    fn obey(&mut self, line: &[u8]) -> Result<(), Refusal> {
+    /// Plays a line, or tells why it is refused.
+    pub fn obey(&mut self, line: &[u8]) -> Result<(), Refusal> {
         let ask = match reading::read(line).ok_or(BAD_LINE)? {
             Ask::Table { dealer, big_blind, small_blind, ante, stacks } => {
                 let state = build(dealer, [big_blind, small_blind, ante], &stacks)?;
@@ -74,6 +75,11 @@ impl Player {
             Ask::Settle(ranks) => *state = settle(state, &ranks)?,
         }
         Ok(())
+    }
+
+    /// The key of the table that stands.
+    pub fn key(&self) -> Key {
+        self.key
     }
 
     pub fn next_key_is_good(&self) -> bool {
