@@ -1,4 +1,6 @@
 // Lists of amounts, 16 places each: how they are filled, cleared and taken together. A length above 16 counts as 16.
+#![tactic(auto)]
+
 ghost use Rattle.std.specs.Prelude.{◌≡◌, cond, min};
 ghost use Rattle.amounts.specs.Amounts.{of_slice, kept_to, cleared_to, sum_of, largest_of, above_of, invalid, any_invalid};
 

@@ -1,12 +1,14 @@
 // The arithmetic of one bet, on plain amounts: a the amount, p the seat's round bet, k its stack, b the bet, m the smallest raise. What the seat faces
 // stands in one struct, so that a rule that looks at more adds a field there.
+#![tactic(auto)]
+
 ghost use Rattle.std.specs.Prelude.{◌≡◌, true};
 ghost use Rattle.bets.specs.Bet.{invalid_size, slack_of, doesnt_call_self, payment_of, is_all_in, raise_by, doesnt_call, too_small, sized, bet_size, size_for};
 
 use refusals::{GameStateError, Refusal};
 
 // What the seat to act faces.
-#[derive(Drop)]
+#[derive(Clone, Copy)]
 pub struct Facing {
     pub round_bet: f32,
     pub stack: f32,
@@ -15,7 +17,7 @@ pub struct Facing {
 }
 
 // What a bet comes to: the payment, or why it is refused.
-#[derive(Drop)]
+#[derive(Clone, Copy)]
 pub enum BetSize {
     Pays(f32),
     Refused(Refusal),

@@ -1,4 +1,6 @@
 // Text 000's GameStateBuilder: each value with a flag that it was given, each list with its true length.
+#![tactic(auto)]
+
 mod checks;
 mod faults;
 mod making;
@@ -13,53 +15,53 @@ use rounds::{Round, RoundData};
 use table::added::Added;
 use table::{GameState, added};
 
-#[derive(Drop)]
+#[derive(Clone, Copy)]
 pub struct GivenAmount {
     pub given: bool,
     pub value: f32,
 }
 
-#[derive(Drop)]
+#[derive(Clone, Copy)]
 pub struct GivenNumber {
     pub given: bool,
     pub value: usize,
 }
 
 // A raise cap that was given may be none.
-#[derive(Drop)]
+#[derive(Clone, Copy)]
 pub struct GivenCap {
     pub given: bool,
     pub capped: bool,
     pub value: u8,
 }
 
-#[derive(Drop)]
+#[derive(Clone, Copy)]
 pub struct GivenRound {
     pub given: bool,
     pub value: Round,
 }
 
-#[derive(Drop)]
+#[derive(Clone, Copy)]
 pub struct GivenAmounts {
     pub given: bool,
     pub list: [f32; 16],
     pub len: usize,
 }
 
-#[derive(Drop)]
+#[derive(Clone, Copy)]
 pub struct GivenBoard {
     pub given: bool,
     pub list: [u8; 5],
     pub len: usize,
 }
 
-#[derive(Drop)]
+#[derive(Clone, Copy)]
 pub struct GivenData {
     pub given: bool,
     pub value: RoundData,
 }
 
-#[derive(Drop)]
+#[derive(Clone, Copy)]
 pub struct GameStateBuilder {
     pub stacks: GivenAmounts,
     pub big_blind: GivenAmount,
@@ -75,7 +77,7 @@ pub struct GameStateBuilder {
     pub added: Added,
 }
 
-#[derive(Drop)]
+#[derive(Clone, Copy)]
 pub struct BuildStep {
     pub answer: Verdict,
     pub table: GameState,

@@ -4,14 +4,14 @@ use crate::numbers::NO_NUMBER;
 use keys::HandKey;
 
 // The status goes to nobody, to a descriptor that was open before any file was, or cannot be told.
-#[derive(Drop)]
+#[derive(Clone, Copy)]
 pub enum StatusTo {
     Nobody,
     Descriptor(i32),
     Nowhere,
 }
 
-#[derive(Drop)]
+#[derive(Clone, Copy)]
 pub enum Command {
     Record,
     Read(HandKey),

@@ -15,7 +15,7 @@ pub type Room = [u8; ROOM];
 pub const NO_BYTES: Room = [0; ROOM];
 
 // An open file: its whole blocks, and whether a part of one stands behind them.
-#[derive(Drop)]
+#[derive(Clone, Copy)]
 pub struct Card {
     pub fd: i32,
     pub blocks: usize,
@@ -23,7 +23,7 @@ pub struct Card {
 }
 
 // A file that is opened; or it is not, it cannot be read or has no size, or it took the number of a standard stream.
-#[derive(Drop)]
+#[derive(Clone, Copy)]
 pub enum Opened {
     Card(Card),
     NotOpened,
@@ -32,7 +32,7 @@ pub enum Opened {
 }
 
 // How many blocks were read, and whether no read failed behind them: errno tells why.
-#[derive(Drop)]
+#[derive(Clone, Copy)]
 pub struct Filled {
     pub blocks: usize,
     pub is_read: bool,

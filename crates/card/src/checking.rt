@@ -4,7 +4,7 @@ use crate::walking::Next;
 use crate::{progress, walking};
 
 // Whether every hand reads, and why not.
-#[derive(Drop)]
+#[derive(Clone, Copy)]
 pub enum Checked {
     Good,
     Bad(usize),

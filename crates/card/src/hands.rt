@@ -6,7 +6,7 @@ use journal::hand::{HandHead, HandRead};
 use journal::{block, hand};
 
 // A hand: its head; no hand, seen so many blocks behind its first; or its end is not among the bytes.
-#[derive(Drop)]
+#[derive(Clone, Copy)]
 pub enum Found {
     Hand(HandHead),
     Bad(usize),
@@ -14,7 +14,7 @@ pub enum Found {
 }
 
 // A block among others of a hand.
-#[derive(Drop)]
+#[derive(Clone, Copy)]
 enum Seen {
     Last,
     More(Title),
@@ -23,7 +23,7 @@ enum Seen {
 }
 
 // Where a hand ends, counted from its first block.
-#[derive(Drop)]
+#[derive(Clone, Copy)]
 enum Ending {
     Blocks(usize),
     Bad(usize),

@@ -2,14 +2,14 @@
 use crate::numbers;
 
 // Where bytes come from: what a stream has to come, or a file from a place on.
-#[derive(Drop)]
+#[derive(Clone, Copy)]
 pub enum Source {
     Stream,
     From(usize),
 }
 
 // How much was read, and whether no read failed behind it: errno tells why.
-#[derive(Drop)]
+#[derive(Clone, Copy)]
 pub struct Got {
     pub bytes: usize,
     pub is_read: bool,

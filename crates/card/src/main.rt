@@ -1,4 +1,6 @@
 // The program behind ./journal: the hands of a script recorded on a card, a card listed, and a hand of it read back as a script.
+#![tactic(auto)]
+
 mod appending;
 mod arguments;
 mod cards;

@@ -6,7 +6,7 @@ use libc::STDERR_FILENO;
 const STRIDE: usize = 1024;
 
 // Whether there is somebody to see it, from which block on it is written next, and whether it stands there.
-#[derive(Drop)]
+#[derive(Clone, Copy)]
 pub struct Bar {
     is_seen: bool,
     next: usize,

@@ -23,7 +23,7 @@ const ENTRIES: usize = 30_600;
 const EDITION: u8 = 1;
 
 // How the recording of a hand ended, and the bytes of the file then.
-#[derive(Drop)]
+#[derive(Clone, Copy)]
 struct Kept {
     status: u8,
     bytes: usize,

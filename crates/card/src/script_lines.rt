@@ -9,7 +9,7 @@ use libc::STDOUT_FILENO;
 const FULL: usize = 4000;
 
 // The place after what is left of the text; or it could not be written.
-#[derive(Drop)]
+#[derive(Clone, Copy)]
 enum Left {
     At(usize),
     NotWritten,

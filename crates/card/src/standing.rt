@@ -4,7 +4,7 @@ use crate::checking::Checked;
 use crate::{cards, checking, telling};
 
 // Open for appending behind so many bytes that were checked; missing; or of no use, which is told.
-#[derive(Drop)]
+#[derive(Clone, Copy)]
 pub enum Standing {
     Open { fd: i32, bytes: usize },
     Missing,

@@ -6,7 +6,7 @@ use journal::hand::HandHead;
 use keys::HandKey;
 
 // The first block that the room holds, how many it holds, and the block where the next hand begins.
-#[derive(Drop)]
+#[derive(Clone, Copy)]
 pub struct Place {
     pub from: usize,
     pub held: usize,
@@ -19,7 +19,7 @@ pub const START: Place = Place {
     at: 0,
 };
 
-#[derive(Drop)]
+#[derive(Clone, Copy)]
 pub struct Hand {
     pub key: HandKey,
     pub first: usize,
@@ -28,7 +28,7 @@ pub struct Hand {
 }
 
 // What comes next: a hand, the end, a block that does not read, or a read that failed.
-#[derive(Drop)]
+#[derive(Clone, Copy)]
 pub enum Next {
     Hand(Hand),
     End,
@@ -36,7 +36,7 @@ pub enum Next {
     NotRead,
 }
 
-#[derive(Drop)]
+#[derive(Clone, Copy)]
 pub struct Step {
     pub next: Next,
     pub place: Place,

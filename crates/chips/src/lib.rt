@@ -1,4 +1,6 @@
 // Whole chips: which amounts are whole numbers 0 to 8,000, and how many chips they are. Total: an amount that is not whole is no chips.
+#![tactic(auto)]
+
 ghost use Rattle.std.specs.Prelude.{◌≡◌, min};
 ghost use Rattle.chips.specs.Whole.{is_whole, chips_in, all_whole, sum_chips};
 

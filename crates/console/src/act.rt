@@ -14,7 +14,7 @@ use script::line::{Line, Words};
 use table::{BetStep, GameState, TableStep};
 
 // What stands between two lines: no table, or a table; and the key that the next table takes.
-#[derive(Drop)]
+#[derive(Clone, Copy)]
 pub struct State {
     pub stands: bool,
     pub table: GameState,
@@ -22,7 +22,7 @@ pub struct State {
 }
 
 // What a line gives: 0 or the refusal's number, and what stands after it.
-#[derive(Drop)]
+#[derive(Clone, Copy)]
 pub struct Act {
     pub number: u8,
     pub state: State,

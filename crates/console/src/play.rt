@@ -12,21 +12,21 @@ use script::{print, reader};
 use table::GameState;
 
 // The number of the next line, and what stands before it.
-#[derive(Drop)]
+#[derive(Clone, Copy)]
 pub struct Console {
     pub line_no: usize,
     pub state: State,
 }
 
 // A line's text, and the console after it.
-#[derive(Drop)]
+#[derive(Clone, Copy)]
 pub struct Turn {
     pub text: Text,
     pub console: Console,
 }
 
 // Where a part of the script ends, the console there, and how many bytes were printed.
-#[derive(Drop)]
+#[derive(Clone, Copy)]
 pub struct Played {
     pub at: usize,
     pub console: Console,

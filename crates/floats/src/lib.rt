@@ -1,4 +1,6 @@
 // Document 01's helpers on f32, and the two tests of the Rust's that lean on the format. Names are the Rust's where it has one.
+#![tactic(auto)]
+
 ghost use Rattle.std.specs.Prelude.{◌≡◌, false};
 ghost use Rattle.std.specs.Float.{inf};
 ghost use Rattle.std.specs.Float.Ieee.{is_nan};

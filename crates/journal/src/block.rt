@@ -10,7 +10,7 @@ use keys::HandKey;
 use refusals::JournalError;
 
 // What all blocks of a hand say alike: its key, and the edition of the rules that it was played by.
-#[derive(Drop)]
+#[derive(Clone, Copy)]
 pub struct Title {
     pub key: HandKey,
     pub edition: u8,
@@ -26,7 +26,7 @@ impl Title {
 }
 
 // What a block says of itself.
-#[derive(Drop)]
+#[derive(Clone, Copy)]
 pub struct Head {
     pub title: Title,
     pub index: u8,
@@ -35,7 +35,7 @@ pub struct Head {
 }
 
 // A block as it is read: a refusal, or its head.
-#[derive(Drop)]
+#[derive(Clone, Copy)]
 pub enum BlockRead {
     Refused(JournalError),
     Block(Head),

@@ -9,7 +9,7 @@ use crate::{block, fill, heads, lines, words};
 use refusals::JournalError;
 
 // What the blocks of a hand say: its title, how many blocks they are, and how many entries.
-#[derive(Drop)]
+#[derive(Clone, Copy)]
 pub struct HandHead {
     pub title: Title,
     pub blocks: usize,
@@ -17,14 +17,14 @@ pub struct HandHead {
 }
 
 // A hand as it is read.
-#[derive(Drop)]
+#[derive(Clone, Copy)]
 pub enum HandRead {
     Refused(JournalError),
     Hand(HandHead),
 }
 
 // A hand as it is written: a refusal, too little room (the blocks that it needs), or the blocks written.
-#[derive(Drop)]
+#[derive(Clone, Copy)]
 pub enum HandWritten {
     Denied(JournalError),
     NoRoom(usize),

@@ -7,7 +7,7 @@ use crate::{block, fill, words};
 use refusals::JournalError;
 
 // A block as it is laid: a refusal, too little room, or laid; then another must follow, or it was the last.
-#[derive(Drop)]
+#[derive(Clone, Copy)]
 pub enum BlockLaid {
     Denied(JournalError),
     NoRoom,

@@ -1,4 +1,6 @@
 // Document 02, request 3: the hand journal. A hand is written into blocks of 512 bytes, and read back as its lines.
+#![tactic(auto)]
+
 pub mod block;
 mod fill;
 pub mod hand;

@@ -7,14 +7,14 @@ use script::line;
 use script::line::Words;
 
 // A line, and the place after its last entry.
-#[derive(Drop)]
+#[derive(Clone, Copy)]
 pub struct LineRead {
     pub words: Words,
     pub next: usize,
 }
 
 // How many numbers follow, and the first twenty of them.
-#[derive(Drop)]
+#[derive(Clone, Copy)]
 struct Numbers {
     count: usize,
     list: [u16; 20],

@@ -6,7 +6,7 @@ use crate::lines;
 use refusals::JournalError;
 
 // A line that is laid: no line of a hand, too little room, or the entries used then.
-#[derive(Drop)]
+#[derive(Clone, Copy)]
 pub enum Put {
     Denied(JournalError),
     NoRoom,

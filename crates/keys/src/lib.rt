@@ -1,8 +1,10 @@
 // Which hand a table is at: table code, year and hand number. Hand numbers restart each January, so the year is part of the key.
+#![tactic(auto)]
+
 ghost use Rattle.std.specs.Prelude.{◌≡◌};
 ghost use Rattle.keys.specs.Keys.{is_key, is_good, is_same, is_before};
 
-#[derive(Drop)]
+#[derive(Clone, Copy)]
 pub struct HandKey {
     pub code: u16,
     pub year: u16,

@@ -19,6 +19,7 @@ use Rattle.layers.specs.declared.Hand.{Hand}
 use Rattle.layers.specs.Sharing.{ahead}
 use Rattle.layers.specs.Settlement.{rank, contends, pot_of, holds, reached, wins, winners, share, award, is_payable, nothing, awards_of, awarded}
 use Rattle.layers.proofs as crate
+use Rattle.layers.specs.contracts as promised
 use Rattle.layers.proofs.Levels.{contends_in}
 use Rattle.layers.proofs.Payable.{payable}
 use Rattle.layers.proofs.Sharing.{share_near, share_order}
@@ -26,10 +27,10 @@ use Rattle.layers.proofs.Whole.{awards-whole, outsider, award-le}
 use Rattle.layers.proofs.Winning.{best-most, winner-reached, winner-best, has-winners, loser}
 
 -- ---- one result: any pair that the `ensures` of a public function allows is equal
-pub is-payable : OneResult crate.is_payable.ended crate.is_payable.Reads.Learnt
+pub is-payable : OneResult promised.is_payable.ended crate.is_payable.Reads.Learnt
 is-payable κs a x y = only same
 
-pub awards : OneResult crate.awards.ended crate.awards.Reads.Learnt
+pub awards : OneResult promised.awards.ended crate.awards.Reads.Learnt
 awards κs a x y = only same
 
 -- how many winners of the layer under u come ahead of seat i

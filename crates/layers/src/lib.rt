@@ -1,4 +1,6 @@
 // Settlement in whole chips: what a hand awards to each seat, layer by layer.
+#![tactic(auto)]
+
 ghost use Rattle.std.specs.Prelude.{◌≡◌, true};
 ghost use Rattle.layers.specs.Settlement.{is_payable, awards_of};
 
@@ -7,7 +9,7 @@ mod part;
 mod pick;
 
 // A hand to be settled: n seats, those active and those all in, the seat from which odd chips start, each seat's hand bet and rank.
-#[derive(Drop)]
+#[derive(Clone, Copy)]
 pub struct Hand {
     pub n: usize,
     pub active: u16,

@@ -10,7 +10,7 @@ use table::GameState;
 use table::soundness::Frame;
 
 // Whether round data stands there, and which; zeros where none does. Only the round's places are looked at.
-#[derive(Drop)]
+#[derive(Clone, Copy)]
 pub struct DataStanding {
     pub stands: bool,
     pub data: RoundData,

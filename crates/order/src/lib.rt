@@ -1,4 +1,6 @@
 // Document 01's good order of a table. Demand 3 over tables in good order is in proofs/, by a turn machine for any record and any raise rule.
+#![tactic(auto)]
+
 mod seatwise;
 
 ghost use Rattle.std.specs.Prelude.{◌≡◌};

@@ -2,7 +2,7 @@
 ghost use Rattle.std.specs.Prelude.{◌≤◌};
 ghost use Rattle.order.specs.Seatwise.{Seatwise};
 
-#[derive(Drop)]
+#[derive(Clone, Copy)]
 pub struct Seats {
     pub covered: bool,
     pub holding: bool,

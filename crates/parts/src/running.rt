@@ -8,7 +8,7 @@ use refusals::{AddedError, Refusal};
 use table::{BetAnswer, BetStep, GameState};
 
 // The table after a run, what was paid, and how many bets were taken.
-#[derive(Drop)]
+#[derive(Clone, Copy)]
 pub struct Run {
     pub table: GameState,
     pub paid: f32,

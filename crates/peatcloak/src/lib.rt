@@ -1,5 +1,7 @@
 // The boundary for C and Rust. A table is two lists of the host's, whose places `layout` names. Each call answers 0 or document 01's number, and 19 where no
 // table stands in the lists; a refusal writes nothing, but where it is said. A set of seats and round data cross alone too, and a hand of the journal as bytes.
+#![tactic(auto)]
+
 pub mod asking;
 mod bet;
 pub mod building;

@@ -1,5 +1,7 @@
 // Plays the script on standard input and writes what it prints. 65,537 bytes tell that a script is too long, and of such a one
 // no byte matters, so no more are read.
+#![tactic(auto)]
+
 ghost use Rattle.std.specs.Prelude.{◌≡◌};
 ghost use Rattle.console.specs.Parts.{script_part, played_of};
 

@@ -15,7 +15,7 @@ use script::line::Words;
 use script::reader;
 
 // A hand of a script: its key, how many entries were laid, whether all were, where it is closed, and what stands there.
-#[derive(Drop)]
+#[derive(Clone, Copy)]
 pub struct Taken {
     pub found: bool,
     pub key: HandKey,
@@ -26,14 +26,14 @@ pub struct Taken {
 }
 
 // A place of the script, and what stands there.
-#[derive(Drop)]
+#[derive(Clone, Copy)]
 struct Place {
     at: usize,
     state: State,
 }
 
 // How many entries are laid, and whether all lines so far found room.
-#[derive(Drop)]
+#[derive(Clone, Copy)]
 struct Filled {
     entries: usize,
     is_whole: bool,

@@ -12,7 +12,7 @@ use keys::HandKey;
 use table::GameState;
 
 // What a replay came to: 0, or the number of the line that was refused; the lines before it; and what stands.
-#[derive(Drop)]
+#[derive(Clone, Copy)]
 pub struct Replayed {
     pub number: u8,
     pub lines: usize,

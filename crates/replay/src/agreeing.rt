@@ -6,7 +6,7 @@ use crate::{reading, words};
 pub const LOADED: u8 = 63;
 
 // Our answer, 0 or the number of a refusal, and the place up to which the line says the same.
-#[derive(Drop)]
+#[derive(Clone, Copy)]
 pub struct Told {
     pub answer: u8,
     pub next: usize,

@@ -10,21 +10,21 @@ use rounds::RoundData;
 use table::GameState;
 
 // Whether a field is given, and the place after its letter or its dash.
-#[derive(Drop)]
+#[derive(Clone, Copy)]
 struct Given {
     is_given: bool,
     next: usize,
 }
 
 // Round data and the place after it.
-#[derive(Drop)]
+#[derive(Clone, Copy)]
 struct Data {
     value: RoundData,
     next: usize,
 }
 
 // A builder with the fields before a place.
-#[derive(Drop)]
+#[derive(Clone, Copy)]
 struct Making {
     builder: GameStateBuilder,
     next: usize,

@@ -5,7 +5,7 @@ use crate::words::{WORDS, Words};
 use crate::{agreeing, reading, words};
 
 // Where the changes of a line begin, and the place after them.
-#[derive(Drop)]
+#[derive(Clone, Copy)]
 struct Followed {
     start: usize,
     next: usize,

@@ -10,7 +10,7 @@ pub type Script = [u8; ROOM];
 pub const NO_SCRIPT: Script = [0; ROOM];
 
 // Some bytes of one kind, and the place in the text after them.
-#[derive(Drop)]
+#[derive(Clone, Copy)]
 struct Run {
     byte: u8,
     count: usize,
@@ -18,7 +18,7 @@ struct Run {
 }
 
 // How far a text was read, and how far it was laid out.
-#[derive(Drop)]
+#[derive(Clone, Copy)]
 struct Laid {
     at: usize,
     end: usize,

@@ -4,35 +4,35 @@ use crate::{reading, words};
 use seats::PlayerBitSet;
 
 // An amount and the place of the next token.
-#[derive(Drop)]
+#[derive(Clone, Copy)]
 pub struct Amount {
     pub value: f32,
     pub next: usize,
 }
 
 // A number of two bytes, as a rank is.
-#[derive(Drop)]
+#[derive(Clone, Copy)]
 pub struct Half {
     pub value: u16,
     pub next: usize,
 }
 
 // A set of seats.
-#[derive(Drop)]
+#[derive(Clone, Copy)]
 pub struct Seats {
     pub value: PlayerBitSet,
     pub next: usize,
 }
 
 // A number of one byte, as a counter and a card are.
-#[derive(Drop)]
+#[derive(Clone, Copy)]
 pub struct Small {
     pub value: u8,
     pub next: usize,
 }
 
 // A yes or a no.
-#[derive(Drop)]
+#[derive(Clone, Copy)]
 pub struct Flag {
     pub value: bool,
     pub next: usize,

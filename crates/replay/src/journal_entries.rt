@@ -11,14 +11,14 @@ use journal::tape::Put;
 const NUMBERS: usize = 64;
 
 // How far a line was read, and how many entries are used then.
-#[derive(Drop)]
+#[derive(Clone, Copy)]
 struct Spelled {
     next: usize,
     used: usize,
 }
 
 // How many numbers were read, and the place after them.
-#[derive(Drop)]
+#[derive(Clone, Copy)]
 struct Counted {
     count: usize,
     next: usize,

@@ -6,7 +6,7 @@ use crate::printing::{print, print_number};
 use crate::{counting, reading};
 
 // The lines so far, and how many of them differ.
-#[derive(Drop)]
+#[derive(Clone, Copy)]
 pub struct Tally {
     pub lines: u32,
     pub different: u32,

@@ -3,14 +3,14 @@ use crate::reading::NOWHERE;
 use crate::{inputs, reading};
 use keys::HandKey;
 
-#[derive(Drop)]
+#[derive(Clone, Copy)]
 pub struct Key {
     pub value: HandKey,
     pub next: usize,
 }
 
 // A number of four bytes.
-#[derive(Drop)]
+#[derive(Clone, Copy)]
 struct Full {
     value: u32,
     next: usize,

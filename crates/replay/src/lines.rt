@@ -15,7 +15,7 @@ pub type Piece = [u8; 65536];
 // More turns than a list has lines and pieces.
 pub const TURNS: usize = 1_048_576;
 
-#[derive(Drop)]
+#[derive(Clone, Copy)]
 pub struct Lines {
     // the bytes of the piece, and how many of them are taken
     pub got: usize,

@@ -13,7 +13,7 @@ use crate::{
     step_lines, words,
 };
 
-#[derive(Drop)]
+#[derive(Clone, Copy)]
 pub enum List {
     Seats,
     Floats,

@@ -1,5 +1,7 @@
 // The oracle's lists, asked again of our functions: each answer, each refusal, each word of the table after it, each line that a script prints, and
 // each block of a hand that is written.
+#![tactic(auto)]
+
 mod agreeing;
 mod build_lines;
 mod cases;

@@ -4,28 +4,28 @@
 pub const NOWHERE: usize = 0xffff_ffff_ffff_ffff;
 
 // A byte, and the place after it.
-#[derive(Drop)]
+#[derive(Clone, Copy)]
 pub struct Mark {
     pub byte: u8,
     pub next: usize,
 }
 
 // A decimal number.
-#[derive(Drop)]
+#[derive(Clone, Copy)]
 pub struct Number {
     pub value: usize,
     pub next: usize,
 }
 
 // Eight hex digits.
-#[derive(Drop)]
+#[derive(Clone, Copy)]
 pub struct Word {
     pub value: u32,
     pub next: usize,
 }
 
 // The digits of a token so far: their value, and whether each is a digit and the value fits 64 bits.
-#[derive(Drop)]
+#[derive(Clone, Copy)]
 struct Digits {
     value: usize,
     is_good: bool,

@@ -1,4 +1,6 @@
 // The first half of text 000: the twelve rounds, and round data with its walk.
+#![tactic(auto)]
+
 mod answers;
 pub mod paying;
 pub mod walking;
@@ -13,7 +15,7 @@ use paying::Stake;
 use refusals::{AddedError, Refusal};
 use seats::PlayerBitSet;
 
-#[derive(Drop)]
+#[derive(Clone, Copy)]
 pub enum Round {
     Starting,
     Ante,
@@ -69,7 +71,7 @@ impl Round {
     }
 }
 
-#[derive(Drop)]
+#[derive(Clone, Copy)]
 pub struct RoundData {
     pub starting_player_active: PlayerBitSet,
     pub needs_action: PlayerBitSet,
@@ -84,20 +86,20 @@ pub struct RoundData {
 }
 
 // What a step answers: how many seats the walk passed to, 0 where the step has no walk; or why it is refused.
-#[derive(Drop)]
+#[derive(Clone, Copy)]
 pub enum StepAnswer {
     Done(usize),
     Refused(Refusal),
 }
 
-#[derive(Drop)]
+#[derive(Clone, Copy)]
 pub struct RoundStep {
     pub answer: StepAnswer,
     pub round_data: RoundData,
 }
 
 // An amount that was asked for.
-#[derive(Drop)]
+#[derive(Clone, Copy)]
 pub enum AmountAnswer {
     Is(f32),
     Unknown(Refusal),

@@ -4,7 +4,7 @@ ghost use Rattle.std.specs.Prelude.{◌≡◌, cond};
 ghost use Rattle.rounds.specs.Paying.{is_raise, up_if, is_full, staked, owing_after, pay_of};
 
 // The payer's round bet, the bet and the smallest raise, and how many bets, raises and forced bets there were.
-#[derive(Drop)]
+#[derive(Clone, Copy)]
 pub struct Stake {
     pub round_bet: f32,
     pub bet: f32,
@@ -15,7 +15,7 @@ pub struct Stake {
 }
 
 // The seat that pays, and what a payment moves beside its stake.
-#[derive(Drop)]
+#[derive(Clone, Copy)]
 pub struct Payer {
     pub stake: Stake,
     pub stack: f32,

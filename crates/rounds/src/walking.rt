@@ -3,7 +3,7 @@ ghost use Rattle.std.specs.Prelude.{◌≡◌, ◌+◌, ◌%◌, ◌<◌, ◌≤
 ghost use Rattle.rounds.specs.Walk.{Ahead, distance, walk_of, reached_from};
 
 // Where a walk ends, and the number of seats passed to.
-#[derive(Drop)]
+#[derive(Clone, Copy)]
 pub struct Reached {
     pub seat: usize,
     pub passed: usize,

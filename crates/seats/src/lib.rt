@@ -1,4 +1,6 @@
 // Text 001: PlayerBitSet, by value. The work is done on the number that holds the set, in bits.
+#![tactic(auto)]
+
 ghost use Rattle.std.specs.Prelude.{◌≡◌, eqb};
 ghost use Rattle.std.specs.Int.Bits.{bit_and, bit_or};
 ghost use Rattle.seats.specs.Bits.{count_to};
@@ -8,39 +10,39 @@ use refusals::{AddedError, GameStateBuilderError, Refusal};
 
 pub mod bits;
 
-#[derive(Drop)]
+#[derive(Clone, Copy)]
 pub struct PlayerBitSet {
     pub set: u16,
 }
 
-#[derive(Drop)]
+#[derive(Clone, Copy)]
 pub enum SetAnswer {
     Made,
     Refused(Refusal),
 }
 
 // What a call that makes a set gives: the answer, and the set beside it.
-#[derive(Drop)]
+#[derive(Clone, Copy)]
 pub struct SetStep {
     pub answer: SetAnswer,
     pub set: PlayerBitSet,
 }
 
 // Whether a seat is in the set.
-#[derive(Drop)]
+#[derive(Clone, Copy)]
 pub enum SeatAnswer {
     Is(bool),
     NoSeat(Refusal),
 }
 
-#[derive(Drop)]
+#[derive(Clone, Copy)]
 pub struct SeatStep {
     pub answer: SeatAnswer,
     pub set: PlayerBitSet,
 }
 
 // What the Rust's iterator gives: a seat, or that none is left.
-#[derive(Drop)]
+#[derive(Clone, Copy)]
 pub enum NextSeat {
     At(usize),
     NoMore,

@@ -22,13 +22,14 @@ use Rattle.settlement.specs.declared.Settled.{Settled}
 use Rattle.settlement.specs.Hand.{chips_at, hand_of}
 use Rattle.settlement.specs.Settlement.{raised_all, settled_of}
 use Rattle.settlement.proofs as crate
+use Rattle.settlement.specs.contracts as promised
 use Rattle.settlement.proofs.Accepted.{Accepted, accepted}
 use Rattle.settlement.proofs.Raised as raising
 use Rattle.settlement.proofs.Unpaid as unpaid
 use Rattle.settlement.proofs.Whole.{pot-is, long-enough}
 
 -- any pair of results that the `ensures` of `settle` allows is equal
-pub settle : OneResult crate.settle.ended crate.settle.Reads.Learnt
+pub settle : OneResult promised.settle.ended crate.settle.Reads.Learnt
 settle κs a x y = only same
 
 -- the record after, and what a seat is awarded

@@ -1,4 +1,6 @@
 // Settlement, which the Rust lacks: the pot of a record goes to its contenders, layer by layer, and each seat's reward is told.
+#![tactic(auto)]
+
 ghost use Rattle.std.specs.Prelude.{◌≡◌, ◌≤◌};
 ghost use Rattle.settlement.specs.Hand.{after_dealer, hand_of};
 ghost use Rattle.settlement.specs.Settlement.{settle_rows, paid_out, settled_of};
@@ -11,7 +13,7 @@ use table::GameState;
 mod checks;
 mod paying;
 
-#[derive(Drop)]
+#[derive(Clone, Copy)]
 pub struct Settled {
     pub answer: Verdict,
     pub table: GameState,

@@ -4,7 +4,7 @@ ghost use Rattle.table.specs.Added.{good_added};
 
 use keys::HandKey;
 
-#[derive(Drop)]
+#[derive(Clone, Copy)]
 pub struct Added {
     pub key: HandKey,
 }

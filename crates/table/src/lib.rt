@@ -1,4 +1,6 @@
 // The second half of text 000: the record, by value, with its steps and queries; and the choice. The builder is a crate of its own.
+#![tactic(auto)]
+
 pub mod added;
 pub mod advancing;
 mod answers;
@@ -18,7 +20,7 @@ use rounds::{Round, RoundData, StepAnswer};
 use seats::PlayerBitSet;
 use soundness::Frame;
 
-#[derive(Drop)]
+#[derive(Clone, Copy)]
 pub struct GameState {
     pub num_players: usize,
     pub player_active: PlayerBitSet,
@@ -45,26 +47,26 @@ pub struct GameState {
 }
 
 // What a bet answers: the payment and how many seats the walk passed to, or why it is refused.
-#[derive(Drop)]
+#[derive(Clone, Copy)]
 pub enum BetAnswer {
     Paid(f32, usize),
     NotPaid(Refusal),
 }
 
-#[derive(Drop)]
+#[derive(Clone, Copy)]
 pub struct BetStep {
     pub answer: BetAnswer,
     pub table: GameState,
 }
 
-#[derive(Drop)]
+#[derive(Clone, Copy)]
 pub struct TableStep {
     pub answer: StepAnswer,
     pub table: GameState,
 }
 
 // Text 002: a player's choice.
-#[derive(Drop)]
+#[derive(Clone, Copy)]
 pub enum AgentAction {
     Fold,
     Call,

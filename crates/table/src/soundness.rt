@@ -5,7 +5,7 @@ ghost use Rattle.table.specs.Sound.{sound_frame, board_ok};
 use crate::added::Added;
 
 // The parts of a record that its soundness looks at.
-#[derive(Drop)]
+#[derive(Clone, Copy)]
 pub struct Frame {
     pub seats: usize,
     pub round_seats: usize,

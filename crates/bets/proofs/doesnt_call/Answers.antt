@@ -1,0 +1,6 @@
+-- `bets::doesnt_call`: the test is the definition's. Assumes nothing.
+use mathlib.Core.Path.{refl}
+use Rattle.bets.proofs.doesnt_call.Goals as goal
+
+pub returns : goal.returns
+returns c = refl

@@ -1,0 +1,13 @@
+-- `seats::PlayerBitSet::get`: each arm by its test. Assumes nothing.
+use borrow.Author.Tests.{lt-ltb, le-ltb}
+use Rattle.seats.specs.Set.{get_of}
+use borrow.Author.Rules.{rules}
+use Rattle.seats.proofs.PlayerBitSet.get.Goals as goal
+
+pub returns-then-idx-lt16 : goal.returns-then-idx-lt16
+unfolding get_of
+returns-then-idx-lt16 c = simp (lt-ltb _ _ c.if-idx-lt16.true, c.has.ensures)
+
+pub returns-else-idx-lt16 : goal.returns-else-idx-lt16
+unfolding get_of
+returns-else-idx-lt16 c = simp (le-ltb _ _ c.if-idx-lt16.false)

@@ -1,0 +1,6 @@
+-- `seats::bits::with_if`: each arm by its test. Assumes nothing.
+use borrow.Author.Rules.{rules}
+use Rattle.seats.proofs.bits.with_if.Goals as goal
+
+pub returns-then-test : goal.returns-then-test
+returns-then-test c = simp (c.if-test.true, c.with.ensures)
