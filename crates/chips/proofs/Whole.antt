@@ -1,4 +1,4 @@
--- The test `isWhole` and the number of chips, against `Is`: a whole amount is the number that `chips_in` gives, and an amount that is a number up to 8,000 is whole.
+-- The test `is_whole` and the number of chips, against `Is`: a whole amount is the number that `chips_in` gives, and an amount that is a number up to 8,000 is whole.
 -- And what the code's cast asks and gives between 0 and 8,000. Assumes nothing.
 use Rattle.std.proofs.Common.{◌≡◌, ℕ, ◌+◌, ◌*◌, ◌/◌, ◌%◌, ◌^◌, ◌<◌, ◌≤◌, true, false, T, eqb, [], ◌∷◌, pos, sym, refl, ◌∙◌, ⊎_elim, mul_comm, div-add-mod', zero-mul, mul-one, arith, eqb→eq, lt→ltb, leb→le, pow_pos, eq-eqb, eqb-true, le-leb}
 use native.Mathlib.Nat.{mul-mod_left, eq_of_mul-eq-mul_right, div-le_of_le-mul, zero-div}
@@ -8,7 +8,7 @@ use lib.Ieee.Fits.{up_pos, down_pos, and_l}
 use lib.Ieee.Positive.{num, den, den_pos}
 use Rattle.commons.proofs.Bools.{either, and_both, told}
 use Rattle.floats.specs.Helpers.{zerof}
-use Rattle.chips.specs.Whole.{most, in_range, isWhole, chips_in}
+use Rattle.chips.specs.Whole.{most, in_range, is_whole, chips_in}
 use Rattle.commons.proofs.Order.{eqb_same}
 use Rattle.chips.proofs.Value.{Plain, Is, own, of-value, unsigned, lt_val, le_val, eq_val, le-whole}
 use Rattle.chips.proofs.Round.{inf-le}
@@ -85,34 +85,34 @@ module _ (x : Float) (b : Between x) where
       ∙ eqb_same (num x / den x * den x) (num x * 1) (num x % den x) 0 (λ e. omega (arith, div-add-mod' (num x) (den x))) (λ e. omega (arith, div-add-mod' (num x) (den x)))
 
 -- ---- whole amounts
-pub whole-between : (x : Float) → isWhole x ≡ true → Between x
-unfolding isWhole
+pub whole-between : (x : Float) → is_whole x ≡ true → Between x
+unfolding is_whole
 whole-between x w = in_range_lem x (and_both (in_range x) (eqb (num x % den x) 0) w).0
 
-pub whole_is : (x : Float) → isWhole x ≡ true → Is x (chips_in x)
-unfolding isWhole chips_in
+pub whole_is : (x : Float) → is_whole x ≡ true → Is x (chips_in x)
+unfolding is_whole chips_in
 whole_is x w =
     let z : num x % den x ≡ 0 = eqb-true _ _ (and_both (in_range x) (eqb (num x % den x) 0) w).1 in
     rw w (record { plain = (whole-between x w).plain; over = pow_pos 0; size = omega (arith, div-add-mod' (num x) (den x)) })
 
 pub chips-le : (x : Float) → chips_in x ≤ most
 unfolding chips_in
-chips-le x = ⊎_elim (λ w. rw w (part-le x (whole-between x w))) (λ f. rw f (omega arith)) (either (isWhole x))
+chips-le x = ⊎_elim (λ w. rw w (part-le x (whole-between x w))) (λ f. rw f (omega arith)) (either (is_whole x))
 
-pub is-whole : (x : Float) (k : ℕ) → Is x k → k ≤ most → isWhole x ≡ true
-unfolding isWhole
-is-whole x k p h =
+pub is_whole_lem : (x : Float) (k : ℕ) → Is x k → k ≤ most → is_whole x ≡ true
+unfolding is_whole
+is_whole_lem x k p h =
     let n : num x ≡ k * den x = sym (mul-one (num x)) ∙ p.size in
     rw (le-whole zero_is p, le-leb 0 k (omega arith), le-whole p most-is, le-leb k most h) (eq-eqb (num x % den x) 0 (rw n (mul-mod_left k (den x))))
 
 pub chips_are : (x : Float) (k : ℕ) → Is x k → k ≤ most → chips_in x ≡ k
-chips_are x k p h = one_number (whole_is x (is-whole x k p h)) p
+chips_are x k p h = one_number (whole_is x (is_whole_lem x k p h)) p
 
 -- ---- the code's two answers, by its first test
-pub tested : (x : Float) (k : ℕ) → in_range x ≡ true → k ≡ to_unsigned 64 x → eq (of_int binary32 (pos k)) x ≡ isWhole x
-unfolding isWhole
+pub tested : (x : Float) (k : ℕ) → in_range x ≡ true → k ≡ to_unsigned 64 x → eq (of_int binary32 (pos k)) x ≡ is_whole x
+unfolding is_whole
 tested x k e c = let b = in_range_lem x e in rw (e, c, cast_is x b) (whole-test x b)
 
-pub untested : (x : Float) → in_range x ≡ false → false ≡ isWhole x
-unfolding isWhole
+pub untested : (x : Float) → in_range x ≡ false → false ≡ is_whole x
+unfolding is_whole
 untested x e = rw e

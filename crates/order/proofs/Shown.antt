@@ -16,10 +16,10 @@ use Rattle.commons.proofs.Order.{lt_or_le}
 use Rattle.seats.proofs.Laws.{has-without}
 use Rattle.rounds.specs.Walk.{distance, walk_of}
 use Rattle.rounds.proofs.Walk.{walk_inside}
-use Rattle.chips.specs.Whole.{most, isWhole, chips_in, all_whole}
+use Rattle.chips.specs.Whole.{most, is_whole, chips_in, all_whole}
 use Rattle.chips.proofs.Value.{Is}
 use Rattle.commons.proofs.Folds.{all_hold}
-use Rattle.chips.proofs.Whole.{is-whole, chips_are}
+use Rattle.chips.proofs.Whole.{is_whole_lem, chips_are}
 use Rattle.chips.proofs.Lists.{whole-at, too_long}
 use Rattle.rounds.specs.Paying.{owing_after}
 use Rattle.order.specs.GoodOrder.{chips_at}
@@ -47,7 +47,7 @@ module _ (n : ℕ) (l : List Float) (w : all_whole l n ≡ true) (s : ℕ) (h : 
 
     pub still-whole : all_whole (set l s x) n ≡ true
     unfolding all_whole
-    still-whole = all_hold n _ (put_each (λ i b. b ≡ true) (set-put isWhole n l s x inside) (is-whole x k v.0 v.1) (λ i j e. whole-at l n w i j))
+    still-whole = all_hold n _ (put_each (λ i b. b ≡ true) (set-put is_whole n l s x inside) (is_whole_lem x k v.0 v.1) (λ i j e. whole-at l n w i j))
 
 -- ---- a seat that leaves a set
 pub without-put : (n s i : ℕ) → n ≤ 16 → i < 16 → Put n (has s) (has (without s i)) i false

@@ -1,0 +1,16 @@
+-- `layers::layer::winners`: each turn takes one seat more into the set of those who reached u with the best rank. Assumes nothing.
+use Prim.Native.Nat.{◌≤◌, ◌-◌}
+use mathlib.Core.Path.{◌≡◌, refl, sym, ◌∙◌}
+use native.Mathlib.Omega.{arith}
+use borrow.Author.Rules.{rules}
+use Rattle.seats.specs.Bits.{seats_where}
+use Rattle.layers.specs.Settlement.{reached, wins}
+use Rattle.layers.proofs.Levels.{contends-is}
+use Rattle.layers.proofs.Seats.{where_next}
+use Rattle.layers.proofs.layer.winners.Given as goal
+
+abbrev pub invariant-loop-i : goal.invariant-loop-i
+invariant-loop-i l = (l.i ≤ l.n) × (l.set ≡ seats_where l.i (wins l.h l.u))
+
+abbrev pub decreases-loop-i : goal.decreases-loop-i
+decreases-loop-i l = l.n - l.i

@@ -1,0 +1,20 @@
+-- `table::GameState::complete`: each return by its tests. Assumes nothing.
+use mathlib.Core.Path.{sym, ap, ◌∙◌}
+use Rattle.table.specs.Rounds.{complete_of}
+use borrow.Author.Rules.{rules}
+use Rattle.table.proofs.GameState.complete.Goals as goal
+
+pub returns-then-is_round : goal.returns-then-is_round
+unfolding complete_of
+returns-then-is_round c =
+    simp (sym c.is_sound.ensures ∙ c.if-is_sound.true, sym c.is_round.ensures ∙ c.if-is_round.true)
+
+pub returns-then-is_sound : goal.returns-then-is_sound
+unfolding complete_of
+returns-then-is_sound c =
+    simp (sym c.is_sound.ensures ∙ c.if-is_sound.true, sym c.is_round.ensures ∙ c.if-is_round.false, c.completed.ensures)
+
+pub returns : goal.returns
+unfolding complete_of
+returns c =
+    simp (sym c.is_sound.ensures ∙ c.if-is_sound.false)

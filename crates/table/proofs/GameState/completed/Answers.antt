@@ -1,0 +1,6 @@
+-- `table::GameState::completed`: each callee's result in turn. Assumes nothing.
+use borrow.Author.Rules.{rules}
+use Rattle.table.proofs.GameState.completed.Goals as goal
+
+pub returns : goal.returns
+returns c = rw (c.with_round.ensures, c.fresh_data-data.ensures)
