@@ -1,21 +1,20 @@
 -- The promises of a block: what is written reads back, and what reads is exactly what is written of it. Assumes nothing.
 use Prim.Native.Nat.{ℕ, zero, suc, ◌+◌, ◌*◌, ◌≤◌, ◌<◌, ◌/◌, ◌%◌}
 use native.Mathlib.Omega.{arith}
-use mathlib.Core.Path.{◌≡◌, refl, sym, ap, ◌∙◌, subst}
-use mathlib.Core.Bool.{Bool, true, false, cond, ◌||◌}
+use mathlib.Core.Path.{◌≡◌, refl, sym, ap, ◌∙◌}
+use mathlib.Core.Bool.{Bool, true, false}
 use mathlib.Core.Logic.{⊎_elim, ◌⊎◌, inl, inr}
-use mathlib.Core.List.{List, [], ◌∷◌}
+use mathlib.Core.List.{List}
 use borrow.Author.Tests.{lt-ltb, eqb-true}
 use lib.Dec.{eqb, ltb}
 use lib.ListN.{length, get_or}
 use Rattle.journal.specs.Check.{byte}
-use Rattle.journal.specs.Entry.{Entry, letter, number, entry_bytes, entry_word, four_bytes, is_entry}
+use Rattle.journal.specs.Entry.{letter, number, entry_bytes, entry_word, four_bytes, is_entry}
 use Rattle.journal.specs.Block.{bit, block_of, title_at, entry_at, entries_from, entries_of, entry_fits, entries_fit, block_ok}
 use Rattle.journal.specs.Read.{head_at, read_of}
 use Rattle.journal.specs.declared.block.Title.{Title}
 use Rattle.journal.specs.declared.block.Head.{Head}
 use Rattle.refusals.specs.declared.JournalError.TheVariants.{BadJournal}
-use Rattle.journal.specs.declared.block.BlockRead.{BlockRead}
 use Rattle.journal.specs.declared.block.BlockRead.TheVariants.{Refused, Block}
 use Rattle.commons.proofs.Bools.{either}
 use Rattle.commons.proofs.Folds.{all-at}

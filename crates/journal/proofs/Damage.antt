@@ -1,8 +1,8 @@
 -- What the check finds in a hand: every damage of one bit, and every change of one byte but 0 to 255 and back, is 27. Assumes nothing.
-use Prim.Native.Nat.{ℕ, zero, suc, ◌+◌, ◌*◌, ◌-◌, ◌≤◌, ◌<◌, ◌/◌, ◌%◌, ◌^◌}
+use Prim.Native.Nat.{ℕ, zero, suc, ◌+◌, ◌*◌, ◌<◌, ◌/◌, ◌%◌, ◌^◌}
 use native.Mathlib.Omega.{arith}
 use mathlib.Core.Path.{◌≡◌, refl, sym, ap, ◌∙◌}
-use mathlib.Core.Bool.{Bool, true, false}
+use mathlib.Core.Bool.{true, false}
 use mathlib.Core.Logic.{⊎_elim, ◌⊎◌, inl, inr}
 use mathlib.Core.List.{List, [], ◌∷◌}
 use borrow.Author.Tests.{eqb-true, eqb-false}
@@ -15,7 +15,6 @@ use Rattle.journal.specs.Check.{byte}
 use Rattle.journal.specs.Block.{block_ok}
 use Rattle.journal.specs.Hand.{piece, blocks_in, hand_ok, reads}
 use Rattle.journal.specs.declared.hand.HandHead.{HandHead}
-use Rattle.journal.specs.declared.hand.HandRead.{HandRead}
 use Rattle.journal.specs.declared.hand.HandRead.TheVariants.{Refused, Hand}
 use Rattle.journal.proofs.LawsDamage.{byte-found, bit_found}
 use Rattle.journal.proofs.LawsReads.{piece_byte}

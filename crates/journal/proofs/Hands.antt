@@ -1,9 +1,9 @@
 -- The promises of a hand: the reader accepts exactly what the writer gives, and both say the same of it. Assumes nothing.
-use Prim.Native.Nat.{ℕ, zero, suc, ◌+◌, ◌*◌, ◌-◌, ◌≤◌, ◌<◌, ◌/◌, ◌%◌}
+use Prim.Native.Nat.{ℕ, ◌+◌, ◌*◌, ◌-◌, ◌≤◌, ◌<◌, ◌/◌, ◌%◌}
 use native.Mathlib.Omega.{arith}
-use mathlib.Core.Path.{◌≡◌, refl, sym, ap, ◌∙◌, subst}
+use mathlib.Core.Path.{◌≡◌, refl, sym, ap, ◌∙◌}
 use mathlib.Core.Bool.{Bool, true, false, cond, not, ◌&&◌, ◌||◌}
-use mathlib.Core.Logic.{⊎_elim, ◌⊎◌, inl, inr}
+use mathlib.Core.Logic.{⊎_elim}
 use mathlib.Core.List.{List}
 use borrow.Author.Tests.{ne_eqb, eqb-false, le-ltb, ltb-false}
 use lib.Dec.{eqb, ltb}
@@ -16,10 +16,8 @@ use Rattle.journal.specs.Hand.{block_count, piece, hand_bytes, writes, blocks_in
 use Rattle.journal.specs.declared.block.Title.{Title}
 use Rattle.refusals.specs.declared.JournalError.TheVariants.{BadJournal, NotKept}
 use Rattle.journal.specs.declared.hand.HandHead.{HandHead}
-use Rattle.journal.specs.declared.hand.HandRead.{HandRead}
 use Rattle.journal.specs.declared.hand.HandRead.TheVariants.{Refused, Hand}
-use Rattle.journal.specs.declared.hand.HandWritten.{HandWritten}
-use Rattle.journal.specs.declared.hand.HandWritten.TheVariants.{Denied, NoRoom, Blocks}
+use Rattle.journal.specs.declared.hand.HandWritten.TheVariants.{Denied, Blocks}
 use Rattle.commons.proofs.Bools.{and_both, or_neither, turned}
 use Rattle.commons.proofs.Order.{lt_or_le}
 use Rattle.journal.proofs.LawsBlock.{ok-year, ok-index, ok-edition}

@@ -1,37 +1,34 @@
 -- What follows of one image: hands of another key or other lines have other bytes, and blocks that are laid one at a time are those of the hand,
 -- be it from a part of what is left, and read as what was laid.
 -- Assumes nothing.
-use Prim.Native.Nat.{ℕ, zero, suc, ◌+◌, ◌*◌, ◌-◌, ◌≤◌, ◌<◌, ◌/◌, min}
+use Prim.Native.Nat.{ℕ, zero, suc, ◌+◌, ◌*◌, ◌-◌, ◌≤◌, ◌<◌, min}
 use native.Mathlib.Omega.{arith}
 use mathlib.Core.Path.{◌≡◌, refl, sym, ap, ◌∙◌}
-use mathlib.Core.Bool.{Bool, true, false, cond, not, ◌&&◌, ◌||◌}
+use mathlib.Core.Bool.{Bool, true, false, cond, not}
 use mathlib.Core.Logic.{⊎_elim, ◌⊎◌, inl, inr}
 use mathlib.Core.List.{List, [], ◌∷◌, ◌++◌}
-use borrow.Author.Tests.{eq-eqb, ne_eqb, le-leb, lt-leb, le-ltb, leb-true, leb-false, eqb-false}
+use borrow.Author.Tests.{ne_eqb, le-leb, lt-leb, le-ltb, leb-true, leb-false, eqb-false}
 use lib.Dec.{eqb, leb, ltb}
 use lib.ListN.{length, get_or, take, drop, length-drop, length-append, length-take}
 use lib.Seq.{get_or-take, get_or-drop, length-take-le, take-append-le}
-use Rattle.commons.specs.Folds.{all_to}
 use Rattle.commons.proofs.Bools.{and_both, or_neither, turned}
 use Rattle.commons.proofs.Folds.{all_hold, all-at}
 use Rattle.commons.proofs.Order.{lt_or_le, is-eqb}
 use Rattle.keys.specs.Keys.{is_key}
 use Rattle.journal.specs.Entry.{is_entry}
-use Rattle.journal.specs.Block.{is_edition, bit, block_of, entries_of}
+use Rattle.journal.specs.Block.{is_edition, bit, entries_of}
 use Rattle.journal.specs.Read.{read_of}
-use Rattle.journal.specs.Lines.{Line, spells, lines_ok, tape_of, lines_of}
+use Rattle.journal.specs.Lines.{Line, lines_ok, tape_of, lines_of}
 use Rattle.journal.specs.Hand.{block_count, piece, block_at, hand_bytes, writes, reads, words_of}
 use Rattle.journal.specs.Lay.{all_entries, block_laid, lays}
 use Rattle.journal.specs.declared.block.Title.{Title}
 use Rattle.journal.specs.declared.block.BlockRead.TheVariants.{Block}
 use Rattle.journal.specs.declared.hand.HandHead.{HandHead}
-use Rattle.journal.specs.declared.hand.HandRead.TheVariants.{Hand}
 use Rattle.journal.specs.declared.hand.HandWritten.TheVariants.{Blocks}
-use Rattle.journal.specs.declared.laying.BlockLaid.{BlockLaid}
 use Rattle.journal.specs.declared.laying.BlockLaid.TheVariants.{More, Last}
 use Rattle.journal.proofs.LawsWrites.{take-most}
 use Rattle.journal.proofs.LawsSpelt.{lines-back}
-use Rattle.journal.proofs.LawsTrip.{Kept, bit-most, block-is, spells-entries, spells-some}
+use Rattle.journal.proofs.LawsTrip.{Kept, bit-most, block-is, spells-entries}
 use Rattle.journal.proofs.LawsLay.{laid_by, laid-room}
 use Rattle.journal.proofs.LawsBack.{Fit}
 use Rattle.journal.proofs.Blocks.{reads-back, same_entries}

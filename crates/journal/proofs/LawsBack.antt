@@ -1,24 +1,22 @@
 -- A block that was written passes the tests and reads back as what was written. Assumes nothing.
-use Prim.Native.Nat.{ℕ, zero, suc, ◌+◌, ◌*◌, ◌-◌, ◌≤◌, ◌<◌, ◌/◌, ◌%◌}
+use Prim.Native.Nat.{ℕ, zero, suc, ◌+◌, ◌*◌, ◌-◌, ◌≤◌, ◌<◌}
 use native.Mathlib.Omega.{arith}
-use native.Mathlib.Nat.{add_assoc}
-use mathlib.Core.Path.{◌≡◌, refl, sym, ap, ◌∙◌, subst}
-use mathlib.Core.Bool.{Bool, true, false, cond, not, ◌||◌}
-use mathlib.Core.Logic.{⊎_elim, ◌⊎◌, inl, inr}
+use mathlib.Core.Path.{◌≡◌, refl, sym, ap, ◌∙◌}
+use mathlib.Core.Bool.{Bool, true, false, ◌||◌}
+use mathlib.Core.Logic.{⊎_elim, ◌⊎◌}
 use mathlib.Core.List.{List, [], ◌∷◌, ◌++◌, append_assoc}
 use borrow.Author.Tests.{eq-eqb, ne_eqb, lt-ltb, le-ltb, le-leb}
-use lib.Dec.{eqb, ltb, leb}
+use lib.Dec.{eqb, ltb}
 use lib.ListN.{length, get_or, drop, drop_of_length-le, length-append, get_or-append, get_or-replicate}
 use lib.Seq.{get_or-append-add, drop-cons}
-use Rattle.commons.specs.Tests.{all_of}
 use Rattle.journal.specs.Check.{byte, sum_check, run_check}
 use Rattle.commons.specs.Folds.{all_to}
 use Rattle.journal.specs.Entry.{two_bytes, four_bytes, two_at, four_at, all_bytes, is_entry}
-use Rattle.journal.specs.Block.{is_edition, zeros, head_of, body_of, block_of, title_at, entry_at, entries_from, entries_of, zero_at, entry_fits, entries_fit, block_tests, block_ok}
+use Rattle.journal.specs.Block.{is_edition, zeros, head_of, body_of, block_of, title_at, entry_at, entries_from, entries_of, zero_at, entry_fits, entries_fit, block_ok}
 use Rattle.journal.specs.declared.block.Title.{Title}
 use Rattle.commons.proofs.Order.{lt_or_le}
 use Rattle.commons.proofs.Folds.{all_hold}
-use Rattle.journal.proofs.LawsPut.{head-long, body_long, all_bytes-long, zeros-long, four_bytes-long, sum-checked, run_checked}
+use Rattle.journal.proofs.LawsPut.{head-long, body_long, all_bytes-long, four_bytes-long, sum-checked, run_checked}
 
 -- four bytes behind others, and in front
 four_skip : (xs ys : List ℕ) (j n : ℕ) → n ≡ length xs + j → four_at (xs ++ ys) n ≡ four_at ys j

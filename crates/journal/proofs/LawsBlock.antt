@@ -1,13 +1,12 @@
 -- What the tests of a block say, one by one. Assumes nothing.
-use Prim.Native.Nat.{ℕ, zero, suc, ◌+◌, ◌*◌, ◌-◌, ◌≤◌, ◌<◌}
+use Prim.Native.Nat.{ℕ, ◌≤◌, ◌<◌}
 use native.Mathlib.Omega.{arith}
-use mathlib.Core.Path.{◌≡◌, refl, sym, ap, ◌∙◌, subst}
-use mathlib.Core.Bool.{Bool, true, false, cond, not, ◌&&◌, ◌||◌}
-use mathlib.Core.List.{List, [], ◌∷◌}
+use mathlib.Core.Path.{◌≡◌, ◌∙◌}
+use mathlib.Core.Bool.{Bool, true, false, not, ◌&&◌, ◌||◌}
+use mathlib.Core.List.{List}
 use borrow.Author.Tests.{eq-eqb, ne_eqb, eqb-true, eqb-false, ltb-true, leb-true}
 use lib.Dec.{eqb, ltb, leb}
 use lib.ListN.{length, get_or}
-use Rattle.commons.specs.Tests.{all_of}
 use Rattle.commons.proofs.Tests.{test_at}
 use Rattle.commons.proofs.Bools.{turned}
 use Rattle.journal.specs.Check.{byte, sum_check, run_check, check_of, check_given}
@@ -16,7 +15,6 @@ use Rattle.journal.specs.Block.{is_edition, zero_at, entries_fit, block_tests, b
 use Rattle.journal.specs.Read.{head_at, read_of}
 use Rattle.journal.specs.declared.sums.Check.{Check}
 use Rattle.refusals.specs.declared.JournalError.TheVariants.{BadJournal}
-use Rattle.journal.specs.declared.block.BlockRead.{BlockRead}
 use Rattle.journal.specs.declared.block.BlockRead.TheVariants.{Refused, Block}
 use Rattle.journal.proofs.LawsCheck.{long}
 

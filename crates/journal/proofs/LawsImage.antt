@@ -2,20 +2,19 @@
 use Prim.Native.Nat.{ℕ, zero, suc, ◌+◌, ◌*◌, ◌-◌, ◌≤◌, ◌<◌, ◌/◌, ◌%◌}
 use Rattle.commons.proofs.Order.{lt_or_le}
 use native.Mathlib.Omega.{arith}
-use mathlib.Core.Path.{◌≡◌, refl, sym, ap, ◌∙◌, subst}
-use mathlib.Core.Bool.{Bool, true, false, cond}
+use mathlib.Core.Path.{◌≡◌, refl, sym, ap, ◌∙◌}
+use mathlib.Core.Bool.{Bool, true, false}
 use mathlib.Core.Logic.{⊎_elim}
-use mathlib.Core.List.{List, [], ◌∷◌, ◌++◌, append_assoc}
-use borrow.Author.Tests.{eqb-true, lt-ltb, le-ltb}
+use mathlib.Core.List.{List, [], ◌∷◌, ◌++◌}
+use borrow.Author.Tests.{eqb-true, le-ltb}
 use lib.Dec.{eqb, ltb}
-use lib.ListN.{length, get_or, take, drop, take-append-drop, drop_of_length-le, length-take}
+use lib.ListN.{length, take, drop, take-append-drop, drop_of_length-le}
 use lib.Seq.{drop-cons, length-take-le}
 use Rattle.journal.specs.Check.{byte, sum_check, run_check}
-use Rattle.commons.specs.Folds.{all_to}
-use Rattle.journal.specs.Entry.{two_bytes, four_bytes, two_at, four_at, all_bytes, is_entry}
+use Rattle.journal.specs.Entry.{two_bytes, four_bytes, two_at, four_at, all_bytes}
 use Rattle.journal.specs.Block.{zeros, head_of, body_of, block_of, title_at, entry_at, entries_from, entries_of, zero_at, entry_fits, entries_fit, block_ok}
 use Rattle.commons.proofs.Folds.{all-at}
-use Rattle.journal.proofs.LawsPut.{four_bytes_lem, sum-checked, run_checked, zeros-more}
+use Rattle.journal.proofs.LawsPut.{four_bytes_lem, sum-checked, run_checked}
 use Rattle.journal.proofs.LawsBlock.{ok-length, ok-used, ok-head, ok-entries, ok-tail, ok-sum, ok_run}
 
 -- n bytes from a place on

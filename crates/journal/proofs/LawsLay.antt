@@ -1,5 +1,5 @@
 -- Laws of a block that is laid alone: by its tests, and by the room. Assumes nothing.
-use Prim.Native.Nat.{ℕ, ◌+◌, ◌*◌, ◌-◌, ◌≤◌, ◌<◌, min}
+use Prim.Native.Nat.{ℕ, ◌*◌, ◌-◌, ◌≤◌, ◌<◌, min}
 use native.Mathlib.Omega.{arith}
 use mathlib.Core.Path.{◌≡◌, refl, sym, ap, ◌∙◌}
 use mathlib.Core.Bool.{Bool, true, false, cond, not, ◌&&◌, ◌||◌}
@@ -14,7 +14,7 @@ use Rattle.commons.proofs.Order.{lt_or_le}
 use Rattle.refusals.specs.declared.JournalError.{JournalError}
 use Rattle.refusals.specs.declared.JournalError.TheVariants.{BadJournal, NotKept}
 use Rattle.keys.specs.Keys.{is_key}
-use Rattle.journal.specs.Block.{is_edition, bit, block_of}
+use Rattle.journal.specs.Block.{is_edition}
 use Rattle.journal.specs.Lay.{all_entries, block_laid, lays, lay_room, lays_into, lay_after}
 use Rattle.journal.specs.declared.block.Title.{Title}
 use Rattle.journal.specs.declared.laying.BlockLaid.{BlockLaid}

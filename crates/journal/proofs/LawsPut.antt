@@ -2,14 +2,14 @@
 use Prim.Native.Nat.{ℕ, zero, suc, ◌+◌, ◌*◌, ◌-◌, ◌≤◌, ◌<◌, ◌/◌, ◌%◌}
 use native.Mathlib.Numerals.{add-one}
 use native.Mathlib.Omega.{arith}
-use mathlib.Core.Path.{◌≡◌, refl, sym, ap, subst, ◌∙◌}
+use mathlib.Core.Path.{◌≡◌, refl, sym, ap, ◌∙◌}
 use mathlib.Core.Bool.{Bool, true, false}
 use mathlib.Core.List.{List, [], ◌∷◌, ◌++◌, append_assoc, append-nil}
-use lib.ListN.{length, get_or, set, take, drop, replicate, length-append, length-replicate, length-set, replicate-append-replicate, drop_of_length-le, get_or-append, length-take}
+use lib.ListN.{length, get_or, set, take, replicate, length-append, length-replicate, replicate-append-replicate, drop_of_length-le, get_or-append}
 use lib.Seq.{set-append_seam, append_snoc, take-suc, take_all, take-length, length-take-le}
-use Rattle.journal.specs.Check.{byte, sum_of, run_of, sum_check, run_check, check_of, check_given}
+use Rattle.journal.specs.Check.{sum_of, run_of, sum_check, run_check, check_of, check_given}
 use Rattle.journal.specs.Entry.{two_bytes, four_bytes, all_bytes}
-use Rattle.journal.specs.Block.{bit, zeros, head_of, body_of, checked, block_of}
+use Rattle.journal.specs.Block.{bit, zeros, head_of, body_of, block_of}
 use Rattle.journal.specs.Put.{begun, four_put, head_put, words_put}
 use Rattle.journal.specs.declared.block.Title.{Title}
 use Rattle.commons.specs.Filled.{copied}

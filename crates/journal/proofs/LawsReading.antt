@@ -7,16 +7,13 @@ use mathlib.Core.Path.{◌≡◌, refl, sym, ap, ◌∙◌}
 use mathlib.Core.Bool.{Bool, true, false, cond}
 use mathlib.Core.List.{List, [], ◌∷◌}
 use borrow.Author.Tests.{le-leb, lt-leb}
-use lib.Dec.{leb}
 use lib.ListN.{length, set, replicate}
-use Rattle.script.specs.Words.{firsts, no_words}
+use Rattle.script.specs.Words.{no_words}
 use Rattle.script.proofs.LawsWords.{laid, laid-firsts}
-use Rattle.journal.specs.Check.{byte}
 use Rattle.journal.specs.Entry.{is_number}
 use Rattle.journal.specs.Lines.{leading}
 use Rattle.journal.specs.Hand.{blocks_in, word_count, word_given}
 use Rattle.journal.specs.Reading.{count_given, given_from, rest_from, numbers_at, line_from, line_read}
-use Rattle.journal.specs.declared.reading.LineRead.{LineRead}
 use Rattle.journal.specs.declared.reading.Numbers.{Numbers}
 
 -- ---- how many entries there are

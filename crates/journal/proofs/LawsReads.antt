@@ -1,21 +1,18 @@
 -- Laws of a hand that is read. Assumes nothing.
-use Prim.Native.Nat.{ℕ, zero, suc, ◌+◌, ◌*◌, ◌-◌, ◌≤◌, ◌<◌, ◌/◌, ◌%◌}
+use Prim.Native.Nat.{ℕ, ◌+◌, ◌*◌, ◌-◌, ◌≤◌, ◌<◌, ◌%◌}
 use native.Mathlib.Omega.{arith}
-use mathlib.Core.Path.{◌≡◌, refl, sym, ap, ◌∙◌, subst}
-use mathlib.Core.Bool.{Bool, true, false, cond, ◌&&◌}
-use mathlib.Core.List.{List, [], ◌∷◌, ◌++◌}
-use borrow.Author.Tests.{eq-eqb, ne_eqb, le-leb, lt-leb, eqb-true}
-use lib.Dec.{eqb, leb}
-use lib.ListN.{length, get_or, take, drop}
+use mathlib.Core.Path.{◌≡◌, ◌∙◌}
+use mathlib.Core.Bool.{true, false}
+use mathlib.Core.List.{List}
+use borrow.Author.Tests.{eq-eqb, ne_eqb, le-leb, lt-leb}
+use lib.ListN.{length, drop}
 use lib.Seq.{get_or-take, get_or-drop}
 use Rattle.journal.specs.Check.{byte}
-use Rattle.journal.specs.Block.{bit, block_ok, title_at}
+use Rattle.journal.specs.Block.{block_ok, title_at}
 use Rattle.journal.specs.Lines.{spells}
-use Rattle.journal.specs.Hand.{piece, same_title, block_says, block_fits, blocks_in, blocks_fit, word_count, words_of, words_from, hand_ok, reads}
+use Rattle.journal.specs.Hand.{piece, block_says, block_fits, blocks_in, blocks_fit, word_count, words_from, hand_ok, reads}
 use Rattle.journal.specs.declared.block.Title.{Title}
 use Rattle.refusals.specs.declared.JournalError.TheVariants.{BadJournal}
-use Rattle.journal.specs.declared.hand.HandHead.{HandHead}
-use Rattle.journal.specs.declared.hand.HandRead.{HandRead}
 use Rattle.journal.specs.declared.hand.HandRead.TheVariants.{Refused, Hand}
 use Rattle.commons.proofs.Folds.{all-at}
 use Rattle.commons.proofs.Bools.{and_both}

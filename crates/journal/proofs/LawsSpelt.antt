@@ -2,14 +2,14 @@
 use Prim.Native.Nat.{ℕ, zero, suc, ◌+◌, ◌*◌, ◌-◌, ◌≤◌, ◌<◌, ◌/◌, ◌%◌}
 use Prim.Native.Char.{code}
 use native.Mathlib.Omega.{arith}
-use mathlib.Core.Path.{◌≡◌, refl, sym, ap, ◌∙◌, subst}
-use mathlib.Core.Bool.{Bool, true, false, cond, not, ◌&&◌, ◌||◌}
-use mathlib.Core.Logic.{⊎_elim, ◌⊎◌, inl, inr}
-use mathlib.Core.List.{List, [], ◌∷◌, ◌++◌, map, append_assoc, append-nil}
-use borrow.Author.Tests.{eq-eqb, ne_eqb, eqb-true, eqb-false, le-leb, leb-true}
+use mathlib.Core.Path.{◌≡◌, refl, sym, ap, ◌∙◌}
+use mathlib.Core.Bool.{Bool, true, false, not, ◌&&◌, ◌||◌}
+use mathlib.Core.Logic.{⊎_elim}
+use mathlib.Core.List.{List, [], ◌∷◌, ◌++◌, map, append-nil}
+use borrow.Author.Tests.{eq-eqb, ne_eqb, eqb-true, le-leb, leb-true}
 use lib.Dec.{eqb, leb}
 use lib.ListN.{length, get_or}
-use Rattle.journal.specs.Entry.{is_letter, is_number, is_entry, entry_word, letter, number}
+use Rattle.journal.specs.Entry.{is_letter, is_number, entry_word, number}
 use Rattle.journal.specs.Lines.{Line, count_ok, all_small, rest_ok, lines_ok, line_words, tape_of, leading, lines_of, allowed, name_after, count_after, stacks_in, stacks_after, spelt, spells}
 use Rattle.commons.proofs.Bools.{either, differ, never, and_both}
 use Rattle.commons.proofs.Order.{lt_or_le}
@@ -184,7 +184,8 @@ at-letter w ws l c s n a r =
     let y : 0 + length (leading ws) ≡ length (leading ws) = omega arith in
     let o : count_ok w (stacks_in l c s) (length (leading ws)) ≡ true = rw y at r'.0 in
     let p : rest_ok (stacks_in l c s) (lines_of ws) ≡ true = rw (kept-stacks w (0 + length (leading ws)) (stacks_in l c s) t) at r'.1 in
-    rw n (rw z (k, simp (t, o, r'.2, p), refl))
+    let p' : rest_ok (stacks_in l (c + 0) s) (lines_of ws) ≡ true = rw z p in
+    rw n (rw z (k, simp (t, o, r'.2) p', refl))
 
 spelt-lines : (ws : List ℕ) (l c s : ℕ) → ((i : ℕ) → get_or ws i 0 < 4294967296) → spelt l c s ws ≡ true → Spelt ws l c s
 unfolding spelt leading lines_of rest_ok all_small

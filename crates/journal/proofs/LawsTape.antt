@@ -3,13 +3,12 @@ use Prim.Native.Nat.{ℕ, zero, suc, ◌+◌, ◌*◌, ◌-◌, ◌≤◌, ◌<�
 use native.Mathlib.Numerals.{add-one}
 use native.Mathlib.Omega.{arith}
 use mathlib.Core.Path.{◌≡◌, refl, sym, ap, ◌∙◌}
-use mathlib.Core.Bool.{Bool, true, false, cond, ◌||◌}
-use mathlib.Core.List.{List, [], ◌∷◌, ◌++◌, map, append_assoc, append-nil}
+use mathlib.Core.Bool.{Bool, true, false}
+use mathlib.Core.List.{List, [], ◌∷◌, ◌++◌, append_assoc, append-nil}
 use borrow.Author.Tests.{lt-ltb, le-ltb, le-leb, lt-leb}
-use lib.Dec.{ltb, leb}
 use Rattle.refusals.specs.declared.JournalError.TheVariants.{BadJournal}
 use lib.ListN.{length, get_or, set, take, drop, length-append, length-drop}
-use lib.Seq.{set_at, set_split, drop-cons, drop-drop, take-suc, take_at, take-length, length-take-le, append_snoc}
+use lib.Seq.{set_at, set_split, drop-cons, drop-drop, take-suc, take-length, length-take-le, append_snoc}
 use Rattle.journal.specs.Lines.{Line, count_ok, line_words, tape_of}
 use Rattle.journal.specs.Tape.{line_given, line_ok, no_room, put_line, tape_after, numbers_put}
 use Rattle.journal.specs.declared.tape.Put.{Put}

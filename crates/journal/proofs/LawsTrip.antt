@@ -1,22 +1,21 @@
 -- A hand that was written reads back as what was written. Assumes nothing.
 use Prim.Native.Nat.{ℕ, zero, suc, ◌+◌, ◌*◌, ◌-◌, ◌≤◌, ◌<◌, ◌/◌, ◌%◌}
 use native.Mathlib.Omega.{arith}
-use mathlib.Core.Path.{◌≡◌, refl, sym, ap, ◌∙◌, subst}
-use mathlib.Core.Bool.{Bool, true, false, cond, not, ◌&&◌, ◌||◌}
+use mathlib.Core.Path.{◌≡◌, refl, sym, ap, ◌∙◌}
+use mathlib.Core.Bool.{Bool, true, false, cond, ◌&&◌, ◌||◌}
 use mathlib.Core.Logic.{⊎_elim, ◌⊎◌, inl, inr}
-use mathlib.Core.List.{List, [], ◌∷◌, ◌++◌}
+use mathlib.Core.List.{List, [], ◌∷◌}
 use borrow.Author.Tests.{eq-eqb, ne_eqb, le-leb, eqb-true, eqb-false}
 use lib.Dec.{eqb}
-use lib.ListN.{length, get_or, take, drop, drop_of_length-le, length-drop, length-take}
+use lib.ListN.{length, get_or, drop, drop_of_length-le, length-drop}
 use lib.Seq.{get_or-take, get_or-drop, drop-cons, length-take-le, take_all}
 use Rattle.journal.specs.Check.{byte}
 use Rattle.journal.specs.Entry.{two_at, four_at, is_letter, is_number, is_entry}
-use Rattle.journal.specs.Block.{is_edition, bit, block_of, block_ok, title_at, entry_at}
-use Rattle.journal.specs.Lines.{count_ok, allowed, name_after, count_after, stacks_after, spelt, spells}
-use Rattle.journal.specs.Hand.{block_count, piece, joined, block_at, hand_bytes, same_title, block_says, block_fits, blocks_in, blocks_fit, word_in, word_count, words_from, words_of, hand_ok, reads}
+use Rattle.journal.specs.Block.{is_edition, bit, title_at, entry_at}
+use Rattle.journal.specs.Lines.{allowed, name_after, count_after, stacks_after, spelt, spells}
+use Rattle.journal.specs.Hand.{block_count, piece, block_at, hand_bytes, same_title, block_says, block_fits, blocks_in, blocks_fit, word_in, word_count, words_from, words_of, hand_ok, reads}
 use Rattle.journal.specs.declared.block.Title.{Title}
-use Rattle.journal.specs.declared.hand.HandRead.{HandRead}
-use Rattle.journal.specs.declared.hand.HandRead.TheVariants.{Refused, Hand}
+use Rattle.journal.specs.declared.hand.HandRead.TheVariants.{Hand}
 use Rattle.commons.proofs.Order.{lt_or_le}
 use Rattle.commons.proofs.Folds.{all_hold}
 use Rattle.commons.proofs.Bools.{and_both}

@@ -1,32 +1,30 @@
 -- A hand has one image: the bytes that read as a hand are those that are written of its key and entries. Assumes nothing.
 use Prim.Native.Nat.{ℕ, zero, suc, ◌+◌, ◌*◌, ◌-◌, ◌≤◌, ◌<◌, ◌/◌, ◌%◌}
 use native.Mathlib.Omega.{arith}
-use mathlib.Core.Path.{◌≡◌, refl, sym, ap, ◌∙◌, subst}
-use mathlib.Core.Bool.{Bool, true, false, cond, not, ◌&&◌, ◌||◌}
-use mathlib.Core.Logic.{⊎_elim, ◌⊎◌, inl, inr}
-use mathlib.Core.List.{List, [], ◌∷◌, ◌++◌}
-use borrow.Author.Tests.{eq-eqb, ne_eqb, eqb-true, eqb-false, le-ltb, leb-true}
-use lib.Dec.{eqb, ltb}
+use mathlib.Core.Path.{◌≡◌, refl, sym, ap, ◌∙◌}
+use mathlib.Core.Bool.{true, ◌&&◌}
+use mathlib.Core.Logic.{⊎_elim}
+use mathlib.Core.List.{List, [], ◌∷◌}
+use borrow.Author.Tests.{ne_eqb, eqb-true, leb-true}
+use lib.Dec.{eqb}
 use lib.ListN.{length, get_or, take, drop}
-use lib.Seq.{take_all, drop-nil, get_or-take, get_or-drop}
+use lib.Seq.{take_all}
 use Rattle.commons.proofs.Tests.{test_at}
 use Rattle.journal.specs.Check.{byte}
-use Rattle.journal.specs.Entry.{two_at, four_at}
-use Rattle.journal.specs.Block.{bit, block_of, block_ok, title_at, entry_at, entries_from, entries_of}
+use Rattle.journal.specs.Block.{bit, block_of, block_ok, title_at, entries_from, entries_of}
 use Rattle.journal.specs.Lines.{spells}
-use Rattle.journal.specs.Hand.{block_count, piece, joined, block_at, hand_bytes, writes, same_title, block_says, block_fits, blocks_in, blocks_fit, word_in, word_count, words_from, words_of, hand_tests, hand_ok, reads}
+use Rattle.journal.specs.Hand.{block_count, piece, block_at, hand_bytes, same_title, block_says, blocks_in, blocks_fit, word_in, word_count, words_from, words_of, hand_tests, hand_ok}
 use Rattle.journal.specs.declared.block.Title.{Title}
-use Rattle.journal.specs.declared.hand.HandWritten.TheVariants.{Blocks}
 use Rattle.commons.proofs.Order.{lt_or_le}
 use Rattle.commons.proofs.Bools.{and_both}
 use Rattle.keys.specs.Keys.{is_same}
 use Rattle.keys.proofs.Laws.{same-is}
-use Rattle.journal.proofs.LawsBlock.{ok-year, ok-index, ok-some, ok-used, ok-full, ok-last}
+use Rattle.journal.proofs.LawsBlock.{ok-some, ok-used, ok-full}
 use Rattle.journal.proofs.LawsImage.{one_image}
 use Rattle.journal.proofs.LawsHand.{words_long}
-use Rattle.journal.proofs.LawsReads.{piece_byte, fits-ok, fits-says, each_fits, last-used}
+use Rattle.journal.proofs.LawsReads.{piece_byte, fits-ok, fits-says, each_fits}
 use Rattle.journal.proofs.LawsJoined.{joined_cong, joined-pieces}
-use Rattle.journal.proofs.LawsTrip.{title-whole, four-whole, Kept}
+use Rattle.journal.proofs.LawsTrip.{four-whole}
 
 same_fields : (k m : Title) → same_title k m ≡ true → k ≡ m
 unfolding same_title

@@ -1,14 +1,14 @@
 -- Hands and blocks worked out by the definitions, the right ones beside those that a tempting reading would take. Assumes nothing.
-use Prim.Native.Nat.{ℕ, zero, suc, ◌+◌, ◌-◌}
+use Prim.Native.Nat.{ℕ, ◌+◌, ◌-◌}
 use mathlib.Core.Path.{◌≡◌, refl}
-use mathlib.Core.Bool.{Bool, true, false, cond, not, ◌&&◌, ◌||◌}
+use mathlib.Core.Bool.{Bool, true, false, cond, not, ◌&&◌}
 use mathlib.Core.List.{List, [], ◌∷◌, ◌++◌, map}
-use lib.Dec.{eqb, leb, ltb}
-use lib.ListN.{length, get_or, set, take, drop, replicate}
+use lib.Dec.{eqb}
+use lib.ListN.{length, set, take, drop, replicate}
 use Rattle.commons.specs.Folds.{all_to}
 use Rattle.refusals.specs.Number.{journal_number}
 use Rattle.keys.specs.Keys.{key_of}
-use Rattle.journal.specs.Check.{byte, sum_of, run_of, sum_check, run_check}
+use Rattle.journal.specs.Check.{sum_of, run_of, sum_check, run_check}
 use Rattle.journal.specs.Entry.{two_bytes, four_bytes, all_bytes, is_letter, is_number, is_entry, two_at, four_at}
 use Rattle.journal.specs.Block.{zeros, checked, head_of, body_of, block_of, block_ok, zero_at, entry_fits, entries_fit}
 use Rattle.journal.specs.Lines.{Line, count_ok, all_small, rest_ok, lines_ok, tape_of, allowed, name_after, count_after, stacks_in, stacks_after, leading, spelt, spells}

@@ -1,5 +1,5 @@
 -- R18.2, R18.4: a block of 512 bytes, as it is written and as it is read. Definitions only.
-use Rattle.std.specs.Prelude.{ℕ, zero, suc, ◌+◌, ◌*◌, ◌-◌, ◌%◌, Bool, cond, not, ◌||◌, List, [], ◌∷◌, ◌++◌, eqb, leb, ltb, length, replicate}
+use Rattle.std.specs.Prelude.{ℕ, zero, suc, ◌+◌, ◌*◌, ◌-◌, Bool, cond, not, ◌||◌, List, [], ◌∷◌, ◌++◌, eqb, leb, ltb, length, replicate}
 use Rattle.commons.specs.Tests.{all_of}
 use Rattle.keys.specs.Keys.{key_of}
 use Rattle.commons.specs.Folds.{all_to}

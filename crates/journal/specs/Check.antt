@@ -1,6 +1,6 @@
 -- R18.3: "Byte 510 is the sum of bytes 0 to 509 modulo 255; byte 511 is the sum modulo 255 of the running totals taken after each byte" (document 02).
 -- Definitions only.
-use Rattle.std.specs.Prelude.{ℕ, zero, suc, ◌+◌, ◌%◌, cond, List, [], ◌∷◌, leb, get_or, length}
+use Rattle.std.specs.Prelude.{ℕ, zero, suc, ◌+◌, ◌%◌, cond, List, leb, get_or, length}
 use Rattle.journal.specs.declared.sums.Check.{Check}
 
 abbrev pub byte : List ℕ → ℕ → ℕ

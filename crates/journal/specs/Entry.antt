@@ -1,6 +1,6 @@
 -- R18.1: "An entry is the script letter and three zero bytes, or two zero bytes and a 16-bit number" (document 02). An entry is held as the 32-bit
 -- number that its four bytes spell, the lowest first: a letter is itself, a number is 65,536 times itself. Definitions only.
-use Rattle.std.specs.Prelude.{ℕ, ◌+◌, ◌*◌, ◌/◌, ◌%◌, Bool, cond, ◌||◌, List, [], ◌∷◌, ◌++◌, eqb}
+use Rattle.std.specs.Prelude.{ℕ, ◌+◌, ◌*◌, ◌/◌, ◌%◌, Bool, ◌||◌, List, [], ◌∷◌, ◌++◌, eqb}
 use Rattle.script.specs.Ascii.{is}
 use Rattle.journal.specs.Check.{byte}
 

@@ -9,7 +9,6 @@ use Rattle.journal.specs.Block.{is_edition, bit, block_of, block_ok, title_at}
 use Rattle.journal.specs.Lines.{spells}
 use Rattle.journal.specs.declared.block.Title.{Title}
 use Rattle.refusals.specs.declared.JournalError.TheVariants.{BadJournal, NotKept}
-use Rattle.journal.specs.declared.hand.HandHead.{HandHead}
 use Rattle.journal.specs.declared.hand.HandRead.{HandRead}
 use Rattle.journal.specs.declared.hand.HandRead.TheVariants.{Refused, Hand}
 use Rattle.journal.specs.declared.hand.HandWritten.{HandWritten}

@@ -1,9 +1,9 @@
 -- R18.5: entries that are script lines: "`t` stands first and nowhere else in a hand"; each line has its letter's count of numbers,
 -- `t` at least four, `w` as many as the hand's `t` has stacks. Definitions only.
-use Rattle.std.specs.Prelude.{ℕ, ◌+◌, ◌*◌, ◌-◌, ◌/◌, Bool, true, false, cond, not, ◌&&◌, ◌||◌, List, [], ◌∷◌, ◌++◌, map, eqb, leb, length}
+use Rattle.std.specs.Prelude.{ℕ, ◌+◌, ◌-◌, ◌/◌, Bool, true, false, cond, not, ◌&&◌, ◌||◌, List, [], ◌∷◌, ◌++◌, map, eqb, leb, length}
 use Prim.Native.Char.{code}
 use Rattle.script.specs.Ascii.{is}
-use Rattle.journal.specs.Entry.{is_letter, is_number, Entry, letter, number, entry_word}
+use Rattle.journal.specs.Entry.{is_letter, is_number, letter, number, entry_word}
 
 -- ---- lines
 pub record Line : Type 0 where

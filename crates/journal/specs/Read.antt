@@ -1,10 +1,9 @@
 -- R18.4: what is read of a block. Definitions only.
-use Rattle.std.specs.Prelude.{ℕ, cond, ◌&&◌, List, eqb, ltb, length}
+use Rattle.std.specs.Prelude.{ℕ, cond, List, eqb}
 use Rattle.journal.specs.Check.{byte}
-use Rattle.journal.specs.Block.{title_at, entry_at, block_ok}
+use Rattle.journal.specs.Block.{title_at, block_ok}
 use Rattle.journal.specs.declared.block.Head.{Head}
-use Rattle.refusals.specs.declared.JournalError.{JournalError}
-use Rattle.refusals.specs.declared.JournalError.TheVariants.{BadJournal, NotKept}
+use Rattle.refusals.specs.declared.JournalError.TheVariants.{BadJournal}
 use Rattle.journal.specs.declared.block.BlockRead.{BlockRead}
 use Rattle.journal.specs.declared.block.BlockRead.TheVariants.{Refused, Block}
 

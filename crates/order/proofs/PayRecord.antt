@@ -17,7 +17,7 @@ use Rattle.chips.specs.Whole.{most, chips_in}
 use Rattle.chips.proofs.Value.{Is}
 use Rattle.chips.proofs.Add.{add-whole}
 use Rattle.commons.proofs.Folds.{sum-part}
-use Rattle.chips.proofs.Whole.{whole_is, is_whole, chips_are, chips-le}
+use Rattle.chips.proofs.Whole.{whole_is, is_whole_lem, chips_are, chips-le}
 use Rattle.chips.proofs.Lists.{amount-at}
 use Rattle.chips.proofs.Amounts.{Means}
 use Rattle.chips.proofs.Bet.{Same, bet-is}
@@ -109,11 +109,11 @@ module _ (t : GameState) (w : Whole t) {total : ℕ} (g : Good t.num_players tot
         record {
           sound = sound-of (table_paid t x false) (paid-sound t (sound t w.sound) x false);
           stacks = still-whole n t.stacks w.stacks i g.seated new-stack;
-          pot = is_whole _ _ new-pot.0 new-pot.1;
+          pot = is_whole_lem _ _ new-pot.0 new-pot.1;
           hands = still-whole n t.player_bet w.hands i g.seated new-hand;
           rounds = still-whole n d.player_bet w.rounds i g.seated new-round;
-          bet = is_whole _ _ new-bet.0 new-bet.1;
-          least = is_whole _ _ new-least.0 new-least.1;
+          bet = is_whole_lem _ _ new-bet.0 new-bet.1;
+          least = is_whole_lem _ _ new-least.0 new-least.1;
         }
 
     pub pay-shows : Pays base n (view t) X (view (table_paid t x false))

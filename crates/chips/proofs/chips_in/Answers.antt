@@ -5,7 +5,9 @@ use Rattle.chips.proofs.Whole.{whole-between, castable, cast_is, part-le}
 use Rattle.chips.proofs.chips_in.Goals as goal
 
 pub truncating_f32_to_u64-requires : goal.truncating_f32_to_u64-requires
-truncating_f32_to_u64-requires c = castable _ (whole-between _ (sym c.is_whole.ensures ∙ c.if-is_whole.true))
+truncating_f32_to_u64-requires c =
+    let b = castable _ (whole-between _ (sym c.is_whole.ensures ∙ c.if-is_whole.true)) in
+    record { lower_bound = b.0; upper_bound = b.1 }
 
 pub overflow_cast-result : goal.overflow_cast-result
 overflow_cast-result c =

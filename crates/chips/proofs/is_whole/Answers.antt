@@ -6,7 +6,7 @@ use Rattle.chips.proofs.is_whole.Goals as goal
 
 pub truncating_f32_to_u64-k-requires : goal.truncating_f32_to_u64-k-requires
 unfolding of_bits of_int
-truncating_f32_to_u64-k-requires c = castable _ (in_range_lem _ c.if-x.true)
+truncating_f32_to_u64-k-requires c = let b = castable _ (in_range_lem _ c.if-x.true) in record { lower_bound = b.0; upper_bound = b.1 }
 
 pub overflow_cast-k : goal.overflow_cast-k
 unfolding of_bits of_int

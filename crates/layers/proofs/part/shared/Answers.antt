@@ -21,7 +21,7 @@ pub ahead-p-requires : goal.ahead-p-requires
 ahead-p-requires c =
     let set = c.args.set in
     let n = c.args.n in
-    record { f_le_k = λ l. omega (arith, count_most c.args.first c.loop-i.i set l); f_le_w = (omega (arith, count_most c.args.first n set c.requires.n_bound.1), omega (arith, count-le n set, count-le c.loop-i.i set)); k_bound =  }
+    record { f_le_k = λ l. omega (arith, count_most c.args.first c.loop-i.i set l); f_le_w = omega (arith, count_most c.args.first n set c.requires.n_bound.1); k_bound = omega (arith, count-le n set, count-le c.loop-i.i set) }
 
 pub seat_share-requires : goal.seat_share-requires
 seat_share-requires c =

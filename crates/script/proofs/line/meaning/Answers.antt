@@ -1,5 +1,5 @@
 -- `script::line::meaning` meets its contract: at each letter the definition computes to that letter's line. Assumes nothing.
-use borrow.Author.Rules.{rules}
+use native.Mathlib.Omega.{arith}
 use borrow.Author.Tests.{ne_eqb}
 use Rattle.script.specs.Line.{asked}
 use Rattle.script.proofs.line.meaning.Goals as goal
@@ -38,8 +38,4 @@ returns-in-107 c = simp (c.in-107.is, c.only_if-in-107.ensures)
 
 pub returns-in_default : goal.returns-in_default
 unfolding asked
-returns-in_default c =
-    let r = c.in_default.rest in
-    let s = r.0.0.0 in
-    let t = s.0.0.0 in
-    simp (ne_eqb _ _ t.0.1, ne_eqb _ _ t.1, ne_eqb _ _ s.0.0.1, ne_eqb _ _ s.0.1, ne_eqb _ _ s.1, ne_eqb _ _ r.0.0.1, ne_eqb _ _ r.0.1, ne_eqb _ _ r.1)
+returns-in_default c = grind (arith, ne_eqb)

@@ -1,7 +1,6 @@
 -- `script::print::print` meets its contract: four parts after an empty text. Assumes nothing.
 use Prim.Native.Nat.{◌≤◌}
 use native.Mathlib.Omega.{arith}
-use borrow.Author.Rules.{rules}
 use lib.ListN.{length, length-append}
 use Rattle.script.specs.Print.{line_text}
 use Rattle.script.specs.Text.{text_of}

@@ -1,5 +1,4 @@
 -- `script::print::push` meets its contract: a text that is full has no room for what it would add. Assumes nothing.
-use borrow.Author.Rules.{rules}
 use Rattle.script.proofs.LawsPrint.{pushed, full}
 use Rattle.script.proofs.print.push.Goals as goal
 

@@ -1,5 +1,4 @@
 -- `script::print::push_amount` meets its contract: a space, then the number or `?`. Assumes nothing.
-use borrow.Author.Rules.{rules}
 use borrow.Author.Tests.{le-leb, lt-leb}
 use Rattle.script.specs.Print.{amount_text}
 use Rattle.script.proofs.LawsPrint.{and_then}

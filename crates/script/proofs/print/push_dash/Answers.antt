@@ -1,5 +1,4 @@
 -- `script::print::push_dash` meets its contract: two bytes, one after the other. Assumes nothing.
-use borrow.Author.Rules.{rules}
 use Rattle.script.proofs.LawsPrint.{and_then}
 use Rattle.script.proofs.print.push_dash.Goals as goal
 

@@ -1,5 +1,4 @@
 -- `script::print::push_next` meets its contract: a space, then the number. Assumes nothing.
-use borrow.Author.Rules.{rules}
 use Rattle.script.proofs.LawsPrint.{and_then}
 use Rattle.script.proofs.print.push_next.Goals as goal
 

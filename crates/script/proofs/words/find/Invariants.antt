@@ -1,12 +1,9 @@
 -- `script::words::find` meets its contract. The invariant: a search from i on has the same answer as one from the start.
 -- Assumes nothing.
-use Prim.Native.Nat.{ℕ, ◌+◌, ◌-◌, ◌≤◌}
-use mathlib.Core.List.{List}
-use mathlib.Core.Path.{◌≡◌, refl, sym, ◌∙◌}
-use native.Mathlib.Omega.{arith}
+use Prim.Native.Nat.{◌-◌}
+use mathlib.Core.Path.{◌≡◌}
 use lib.ListN.{length}
 use Rattle.script.specs.Split.{place_of}
-use Rattle.script.proofs.LawsSplit.{found, passed, ended, within}
 use Rattle.script.proofs.words.find.Given as goal
 
 abbrev pub invariant-loop-i : goal.invariant-loop-i

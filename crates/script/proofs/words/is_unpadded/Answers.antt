@@ -1,6 +1,5 @@
 -- `script::words::is_unpadded` meets its contract: each return is a law of the word's form. Assumes nothing.
 use mathlib.Core.Path.{sym}
-use borrow.Author.Rules.{rules}
 use Rattle.script.proofs.LawsNumber.{empty, single, longer}
 use Rattle.script.proofs.words.is_unpadded.Goals as goal
 

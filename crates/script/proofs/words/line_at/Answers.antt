@@ -1,6 +1,4 @@
 -- `script::words::line_at` meets its contract: the bytes up to the LF, or none at the end of the script. Assumes nothing.
-use native.Mathlib.Omega.{arith}
-use borrow.Author.Rules.{rules}
 use borrow.Author.Tests.{lt-ltb, le-ltb}
 use lib.ListN.{drop_of_length-le}
 use Rattle.script.specs.Split.{before, pieces}

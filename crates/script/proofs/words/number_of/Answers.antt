@@ -1,17 +1,14 @@
 -- `script::words::number_of` meets its contract. The invariant: after i digits of value v what is left decides. Assumes nothing.
-use Prim.Native.Nat.{◌-◌}
 use mathlib.Core.Path.{sym, ◌∙◌}
 use native.Mathlib.Omega.{arith}
-use borrow.Author.Tests.{not-true, not-false}
-use lib.ListN.{length}
-use Rattle.script.proofs.LawsNumber.{no_form, Seen, begins, too_low, too_high, too_large, goes_on, whole}
+use Rattle.script.proofs.LawsNumber.{no_form, begins, too_low, too_high, too_large, goes_on, whole}
 use Rattle.script.proofs.words.number_of.Goals as goal
 
 pub is_unpadded-requires : goal.is_unpadded-requires
 is_unpadded-requires c = tt
 
 pub returns-then-not-is_unpadded : goal.returns-then-not-is_unpadded
-returns-then-not-is_unpadded c = sym (no_form _ (sym c.is_unpadded.ensures ∙ not-true _ c.if-not-is_unpadded.true))
+returns-then-not-is_unpadded c = sym (no_form _ (sym c.is_unpadded.ensures ∙ c.if-not-is_unpadded.true))
 
 pub loop-i-init : goal.loop-i-init
 loop-i-init c = begins _
@@ -34,4 +31,4 @@ loop-i-preserved c =
 
 pub returns : goal.returns
 returns c =
-    sym (whole _ _ _ c.loop-i.invariant (sym c.is_unpadded.ensures ∙ not-false _ c.if-not-is_unpadded.false) c.loop-i-test.false)
+    sym (whole _ _ _ c.loop-i.invariant (sym c.is_unpadded.ensures ∙ c.if-not-is_unpadded.false) c.loop-i-test.false)

@@ -1,10 +1,7 @@
 -- `script::words::number_of` meets its contract. The invariant: after i digits of value v what is left decides. Assumes nothing.
 use Prim.Native.Nat.{◌-◌}
-use mathlib.Core.Path.{sym, ◌∙◌}
-use native.Mathlib.Omega.{arith}
-use borrow.Author.Tests.{not-true, not-false}
 use lib.ListN.{length}
-use Rattle.script.proofs.LawsNumber.{no_form, Seen, begins, too_low, too_high, too_large, goes_on, whole}
+use Rattle.script.proofs.LawsNumber.{Seen}
 use Rattle.script.proofs.words.number_of.Given as goal
 
 abbrev pub invariant-loop-i : goal.invariant-loop-i

@@ -1,12 +1,10 @@
 -- `script::words::words_of` meets its contract. The invariant: what is laid so far and the words that are left are what the line comes
 -- to. The count is below the place, so that it fits. Assumes nothing.
 use Prim.Native.Nat.{◌-◌, ◌≤◌}
-use mathlib.Core.Path.{◌≡◌, sym, ◌∙◌}
-use native.Mathlib.Omega.{arith}
-use borrow.Author.Rules.{rules}
+use mathlib.Core.Path.{◌≡◌}
 use lib.ListN.{length}
 use Rattle.script.specs.Words.{words_of}
-use Rattle.script.proofs.LawsWords.{after, left, stops, goes_on, whole, no-letter, filled, has-letter}
+use Rattle.script.proofs.LawsWords.{after, left}
 use Rattle.script.proofs.words.words_of.Given as goal
 
 abbrev pub invariant-loop-at : goal.invariant-loop-at

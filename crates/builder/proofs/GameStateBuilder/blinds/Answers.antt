@@ -1,0 +1,6 @@
+-- `builder::GameStateBuilder::blinds`: one setter after the other. Assumes nothing.
+use borrow.Author.Rules.{rules}
+use Rattle.builder.proofs.GameStateBuilder.blinds.Goals as goal
+
+pub returns : goal.returns
+returns c = rw (c.small_blind.ensures, c.big_blind.ensures)

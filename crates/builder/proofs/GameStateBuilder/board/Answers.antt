@@ -1,0 +1,6 @@
+-- `builder::GameStateBuilder::board`: the list is what cards_of ensures. Assumes nothing.
+use borrow.Author.Rules.{rules}
+use Rattle.builder.proofs.GameStateBuilder.board.Goals as goal
+
+pub returns : goal.returns
+returns c = rw c.cards_of-list.ensures

@@ -1,0 +1,6 @@
+-- `builder::GameStateBuilder::player_bet`: the list is what of_slice ensures. Assumes nothing.
+use borrow.Author.Rules.{rules}
+use Rattle.builder.proofs.GameStateBuilder.player_bet.Goals as goal
+
+pub returns : goal.returns
+returns c = rw c.of_slice-list.ensures

@@ -1,0 +1,6 @@
+-- `console::act::bad_line`: the number is that of the refusal. Assumes nothing.
+use Rattle.std.proofs.Common.{rules}
+use Rattle.console.proofs.act.bad_line.Goals as goal
+
+pub returns : goal.returns
+returns c = simp c.number.ensures

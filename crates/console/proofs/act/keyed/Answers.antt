@@ -1,0 +1,6 @@
+-- `console::act::keyed`: the first three numbers are the key. Assumes nothing.
+use Rattle.std.proofs.Common.{rules}
+use Rattle.console.proofs.act.keyed.Goals as goal
+
+pub returns : goal.returns
+returns c = simp c.wide.ensures
