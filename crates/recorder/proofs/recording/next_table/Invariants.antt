@@ -1,0 +1,15 @@
+-- `recorder::recording::next_table`: the next accepted `t` is the same from each place that is passed, and the place goes up with each line. Assumes nothing.
+use Prim.Native.Nat.{◌-◌}
+use native.Mathlib.Omega.{arith}
+use mathlib.Core.Path.{◌≡◌, refl, sym, ◌∙◌}
+use borrow.Author.Rules.{rules}
+use lib.ListN.{length}
+use Rattle.recorder.specs.Taking.{next_table}
+use Rattle.recorder.proofs.LawsTaking.{at-end, line, goes-up, stops-here, goes_on}
+use Rattle.recorder.proofs.recording.next_table.Given as goal
+
+abbrev pub invariant-loop-at : goal.invariant-loop-at
+invariant-loop-at l = next_table l.script l.at l.state ≡ next_table l.script l.initial.at l.initial.state
+
+abbrev pub decreases-loop-at : goal.decreases-loop-at
+decreases-loop-at l = length l.script - l.at
