@@ -1,0 +1,26 @@
+-- `peatcloak::asking::peatcloak_player_reward`: what the table that stands there answers. Assumes nothing.
+use mathlib.Core.Path.{sym, ◌∙◌}
+use native.Mathlib.Omega.{arith}
+use Rattle.peatcloak.proofs.LawsAsked.{one_place, rewarded, unrewarded, no_reward}
+use borrow.Author.Rules.{rules}
+use Rattle.peatcloak.proofs.asking.peatcloak_player_reward.Goals as goal
+
+pub bounds-out-0 : goal.bounds-out-0
+bounds-out-0 c =
+    let a = c.args in
+    omega (arith, one_place a.floats.now a.numbers.now _ c.stands.ensures a.player_idx a.out.now c.if-out-stands.true)
+
+pub returns-then-number-eq0 : goal.returns-then-number-eq0
+returns-then-number-eq0 c =
+    let a = c.args in
+    let t' = rewarded a.floats.now a.numbers.now _ c.stands.ensures a.player_idx a.out.now c.if-out-stands.true _ c.table-t.ensures _ c.player_reward-answer.ensures _ (sym c.number.ensures ∙ c.if-number-eq0.true) c.amount.ensures in record { value = t'.0; out_after = t'.1 }
+
+pub returns-then-out-stands : goal.returns-then-out-stands
+returns-then-out-stands c =
+    let a = c.args in
+    let t' = unrewarded a.floats.now a.numbers.now _ c.stands.ensures a.player_idx a.out.now c.if-out-stands.true _ c.table-t.ensures _ c.player_reward-answer.ensures _ (λ z. c.if-number-eq0.false (c.number.ensures ∙ z)) (c.word_of_byte.ensures.value ∙ c.number-then-out-stands.ensures) in record { value = t'.0; out_after = t'.1 }
+
+pub returns : goal.returns
+returns c =
+    let a = c.args in
+    let t' = no_reward a.floats.now a.numbers.now _ c.stands.ensures a.player_idx a.out.now c.if-out-stands.false in record { value = t'.0; out_after = t'.1 }

@@ -1,0 +1,6 @@
+-- `peatcloak::building::amounts_of`: the list as an array of 16. Assumes nothing.
+use borrow.Author.Rules.{rules}
+use Rattle.peatcloak.proofs.building.amounts_of.Goals as goal
+
+pub returns : goal.returns
+returns c = rw c.of_slice-l.ensures
