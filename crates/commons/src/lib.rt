@@ -1,5 +1,6 @@
 // What belongs to no one subject: numbers, and copies and comparisons of slices. Its definitions and laws are of lists, tests and sums.
 #![tactic(auto)]
+
 pub mod comparing;
 pub mod copying;
 

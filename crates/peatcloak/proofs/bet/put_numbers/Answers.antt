@@ -35,13 +35,16 @@ bounds-numbers-23 c = simp length-set (omega arith)
 
 pub returns : goal.returns
 unfolding numbers_with
-returns c = record { numbers_after = λ i.
-          set (set (set (set (set (set (set (set c.args.numbers.now PLAYER_ACTIVE (c.word_of_set.ensures.value i)) PLAYER_ALL_IN (c.word_of_set-2.ensures.value i)) NEEDS_ACTION (c.word_of_set-3.ensures.value i)) TO_ACT_IDX (c.word_of.ensures i))
-          TOTAL_BET_COUNT (c.word_of_byte.ensures.value i)) TOTAL_RAISE_COUNT (c.word_of_byte-2.ensures.value i)) FORCED_BET_COUNT (c.word_of_byte-3.ensures.value i)) PASSED (c.word_of-2.ensures i); fits = record {
-        active = low c.word_of_set.ensures.value c.word_of_set.ensures.low;
-        all_in = low c.word_of_set-2.ensures.value c.word_of_set-2.ensures.low;
-        owing = low c.word_of_set-3.ensures.value c.word_of_set-3.ensures.low;
-        total = low c.word_of_byte.ensures.value c.word_of_byte.ensures.low;
-        raises = low c.word_of_byte-2.ensures.value c.word_of_byte-2.ensures.low;
-        forced = low c.word_of_byte-3.ensures.value c.word_of_byte-3.ensures.low;
-      } }
+returns c = record {
+  numbers_after = λ i.
+      set (set (set (set (set (set (set (set c.args.numbers.now PLAYER_ACTIVE (c.word_of_set.ensures.value i)) PLAYER_ALL_IN (c.word_of_set-2.ensures.value i)) NEEDS_ACTION (c.word_of_set-3.ensures.value i)) TO_ACT_IDX (c.word_of.ensures i))
+      TOTAL_BET_COUNT (c.word_of_byte.ensures.value i)) TOTAL_RAISE_COUNT (c.word_of_byte-2.ensures.value i)) FORCED_BET_COUNT (c.word_of_byte-3.ensures.value i)) PASSED (c.word_of-2.ensures i);
+  fits = record {
+    active = low c.word_of_set.ensures.value c.word_of_set.ensures.low;
+    all_in = low c.word_of_set-2.ensures.value c.word_of_set-2.ensures.low;
+    owing = low c.word_of_set-3.ensures.value c.word_of_set-3.ensures.low;
+    total = low c.word_of_byte.ensures.value c.word_of_byte.ensures.low;
+    raises = low c.word_of_byte-2.ensures.value c.word_of_byte-2.ensures.low;
+    forced = low c.word_of_byte-3.ensures.value c.word_of_byte-3.ensures.low;
+  };
+}
