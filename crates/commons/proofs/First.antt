@@ -5,6 +5,7 @@ use native.Mathlib.Nat.{eq-or-lt_of_le}
 use native.Mathlib.Omega.{arith}
 use mathlib.Core.Path.{◌≡◌, refl, subst}
 use mathlib.Core.Bool.{Bool, true, false, cond}
+use borrow.Author.Count.{below_more}
 use mathlib.Core.Logic.{⊎_elim, ◌⊎◌, inl, inr}
 use Rattle.commons.specs.First.{first_from}
 use Rattle.commons.proofs.Bools.{either, differ}
@@ -56,9 +57,12 @@ unfolding first_from
 none_is p zero d o f = refl
 none_is p (suc k) d o f = rw (f d (omega arith) (omega arith)) (none_is p k (suc d) o (λ j l h. f j (omega arith) (omega arith)))
 
--- the test holds nowhere from d on below i
+-- what a loop that looks at one place after the other knows: the test holds nowhere from d on below i
 abbrev pub Passed : (ℕ → Bool) → ℕ → ℕ → Type 0
 Passed p d i = (j : ℕ) → j < i → d ≤ j → p j ≡ false
+
+pub passed_on : (p : ℕ → Bool) (d i : ℕ) → Passed p d i → p i ≡ false → Passed p d (i + 1)
+passed_on p d i all here = below_more (λ (j : ℕ). d ≤ j → p j ≡ false) i all (λ l. here)
 
 pub found_at : (p : ℕ → Bool) (k d o r : ℕ) → Passed p d r → d ≤ r → r < d + k → p r ≡ true → first_from k d o p ≡ r
 found_at p k d o r all l h t = first-is p k d o r (record { from = l; upto = h; holds = t; before = λ j m n. all j n m })

@@ -3,7 +3,7 @@ use Rattle.std.specs.Prelude.{ℕ}
 
 -- ---- R15.13: the versions
 abbrev pub VERSION : ℕ
-VERSION = 20301
+VERSION = 20300
 
 abbrev pub LAYOUT : ℕ
 LAYOUT = 2

@@ -1,8 +1,8 @@
 // Where each part of a table stands in a host's two lists. The header, the Rust crate's places and the oracle's are written from this file by .ci/layout,
 // and the gate checks that they are. A comment behind a place goes with it.
 
-// The library's version: 20301 is 2.3.1. The layout's goes up when a place moves or is added.
-pub const VERSION: u32 = 20301;
+// The library's version: 20300 is 2.3.0. The layout's goes up when a place moves or is added.
+pub const VERSION: u32 = 20300;
 
 pub const LAYOUT: u32 = 2;
 

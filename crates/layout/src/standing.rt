@@ -1,6 +1,5 @@
 // The table that stands in a host's two lists.
-ghost use Rattle.std.specs.Prelude.{◌≡◌, ◌&&◌, ◌≤◌, length};
-ghost use Rattle.layout.specs.Places.{NUMBERS};
+ghost use Rattle.std.specs.Prelude.{◌≡◌, ◌&&◌, length};
 ghost use Rattle.layout.specs.Standing.{room_for, words_fit, data_fits, board_fits, sound_in, frame_at, board_at, data_at, table_at, table_in, data_read_of};
 
 use crate::{added, places, words};
@@ -77,23 +76,22 @@ fn board_at(numbers: &[u32]) -> [u8; 5]
     ]
 }
 
-// What soundness looks at: words alone. Single words are read with no test of the length, so that this is short enough to be worked into its two callers.
+// What soundness looks at: words alone.
 fn frame_at(numbers: &[u32]) -> Frame
-    requires { NUMBERS ≤ length numbers.now }
     ensures { result ≡ frame_at numbers.now }
 {
     let board = board_at(numbers);
     let added = added::at(numbers);
     Frame {
-        seats: words::number_of(numbers[places::NUM_PLAYERS]),
-        round_seats: words::number_of(numbers[places::ROUND_LENGTH]),
-        dealer: words::number_of(numbers[places::DEALER_IDX]),
-        to_act: words::number_of(numbers[places::TO_ACT_IDX]),
-        active: words::set_of(numbers[places::PLAYER_ACTIVE]),
-        all_in: words::set_of(numbers[places::PLAYER_ALL_IN]),
-        owing: words::set_of(numbers[places::NEEDS_ACTION]),
-        starting: words::set_of(numbers[places::STARTING_PLAYER_ACTIVE]),
-        cards: words::number_of(numbers[places::BOARD_LENGTH]),
+        seats: words::number_at(numbers, places::NUM_PLAYERS),
+        round_seats: words::number_at(numbers, places::ROUND_LENGTH),
+        dealer: words::number_at(numbers, places::DEALER_IDX),
+        to_act: words::number_at(numbers, places::TO_ACT_IDX),
+        active: words::set_at(numbers, places::PLAYER_ACTIVE),
+        all_in: words::set_at(numbers, places::PLAYER_ALL_IN),
+        owing: words::set_at(numbers, places::NEEDS_ACTION),
+        starting: words::set_at(numbers, places::STARTING_PLAYER_ACTIVE),
+        cards: words::number_at(numbers, places::BOARD_LENGTH),
         board,
         added,
     }

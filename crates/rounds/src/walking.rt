@@ -44,19 +44,17 @@ fn distance_to(owing: u16, n: usize, seat: usize) -> usize
     if first <= last { first + 1 } else { 1 }
 }
 
-// From a seat of the table on to the first that owes, one seat on where none does. The next seat is tried first: most often it owes, and a branch that the
-// processor predicts is quicker than the bits.
-fn walk_from(owing: u16, n: usize, seat: usize) -> Reached
+// The walk by bits, round a table of up to 16. The next seat is tried first: most often it owes, and a branch that the processor predicts is quicker than the
+// bits.
+fn walk_bits(owing: u16, n: usize, seat: usize) -> Reached
     requires seat_lt_n { seat < n }
     requires n_bound { n ≤ 16 }
     ensures { result ≡ reached_from owing n seat }
 {
     let one = next(seat, n);
     if seats::bits::has(owing, one) {
-        return Reached {
-            seat: one,
-            passed: 1,
-        };
+        let passed = 1usize;
+        return Reached { seat: one, passed };
     }
     let passed = distance_to(owing, n, seat);
     let at = seat + passed;
@@ -66,6 +64,29 @@ fn walk_from(owing: u16, n: usize, seat: usize) -> Reached
     Reached {
         seat: at - n,
         passed,
+    }
+}
+
+// From a seat of the table on to the first that owes; one seat on where none does. Up to 16 seats by bits, more one by one.
+fn walk_from(owing: u16, n: usize, seat: usize) -> Reached
+    requires { seat < n }
+    ensures { result ≡ reached_from owing n seat }
+{
+    if n <= 16 {
+        return walk_bits(owing, n, seat);
+    }
+    let mut at = seat;
+    let mut passed = 0usize;
+    while passed < n {
+        at = next(at, n);
+        passed += 1;
+        if seats::bits::has(owing, at) {
+            return Reached { seat: at, passed };
+        }
+    }
+    Reached {
+        seat: next(seat, n),
+        passed: 1,
     }
 }
 

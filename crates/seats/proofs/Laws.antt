@@ -1,7 +1,7 @@
 -- Laws of a set of seats: what `has` says after each step, and which sets stay below 2 ^ n, that is, hold no seat from n on. Assumes nothing.
 use Prim.Native.Nat.{ℕ, zero, suc, ◌+◌, ◌-◌, ◌*◌, ◌/◌, ◌%◌, ◌^◌, ◌<◌, ◌≤◌}
 use native.Mathlib.Nat.{div-eq_of_lt, mod-lt, lt_of_lt_of_le, lt_of_le_of_lt, one-mul, mod-one}
-use mathlib.Core.Logic.{◌⊎◌, inl, inr}
+use mathlib.Core.Logic.{⊎_elim, ◌⊎◌, inl, inr}
 use native.Mathlib.Numerals.{one-add}
 use native.Mathlib.Omega.{arith}
 use mathlib.Core.Path.{◌≡◌, refl, sym, ap, ◌∙◌}
@@ -12,7 +12,9 @@ use lib.Pow.{pow_mono, pow-lt, pow_pos, shl_exact, mod-pow-add}
 use lib.Count.{ones, ones_cat}
 use borrow.Author.Tests.{lt-ltb}
 use Rattle.commons.specs.Folds.{all_to}
+use Rattle.commons.proofs.First.{Passed}
 use Rattle.commons.proofs.Folds.{all-at}
+use Rattle.commons.proofs.Order.{lt_or_le}
 use Rattle.seats.specs.Bits.{has, up_to, count_to, with, without}
 
 -- ---- one bit shifted
@@ -23,6 +25,10 @@ shifted i w h = shl_exact 1 i w (omega arith) (omega arith) ∙ one-mul (2 ^ i)
 pub none_above : (s n i : ℕ) → s < 2 ^ n → n ≤ i → has s i ≡ false
 unfolding has
 none_above s n i l h = simp (div-eq_of_lt (lt_of_lt_of_le l (pow_mono h)))
+
+-- a set of 16 bits of which no seat from d on below i is a member, i past 15, has none from d on
+pub none_from : (s d i : ℕ) → s < 2 ^ 16 → 16 ≤ i → Passed (has s) d i → (j : ℕ) → d ≤ j → j < d + 16 → has s j ≡ false
+none_from s d i l h all j m k = ⊎_elim (λ a. all j (omega arith) m) (λ b. none_above s 16 j l b) (lt_or_le j 16)
 
 -- a bit is 0 or 1
 bit-cases : (a : ℕ) → a < 2 → (a ≡ 0) ⊎ (a ≡ 1)

@@ -36,7 +36,7 @@ use Rattle.table.specs.Rounds.{advance_of, complete_of, is_round, heads_up_prefl
 use Rattle.table.specs.Sound.{sound_frame, sound_of}
 use Rattle.table.specs.With.{with_round}
 use Rattle.table.proofs.Sound.{Sound, sound}
-use Rattle.table.proofs.LawsRows.{complete_order, award_order}
+use Rattle.table.proofs.LawsRows.{fold_order, advance_order, complete_order, award_order}
 
 -- ---- the tests of a record from the facts that they stand for
 pub sound-of : (t : GameState) → Sound t → sound_of t ≡ true
@@ -197,6 +197,12 @@ module _ (t : GameState) (p : sound_of t ≡ true) where
 module _ (t : GameState) where
   accepted-sound : (rest : List Row) {k : ℕ} → k ≡ verdict_number (judge (bad_record t ∷ rest)) → k ≡ 0 → sound_of t ≡ true
   accepted-sound rest e z = turned (sound_of t) false (fails-at (bad_record t ∷ rest) (stands-at-zero (judge (bad_record t ∷ rest)) (sym e ∙ z)) 0)
+
+  pub fold-accepted : number_of (fold_of t).answer ≡ 0 → sound_of (fold_of t).table ≡ true
+  fold-accepted z = folded-sound t (accepted-sound [] (fold_order t) z)
+
+  pub advance-accepted : number_of (advance_of t).answer ≡ 0 → sound_of (advance_of t).table ≡ true
+  advance-accepted z = advanced_sound t (accepted-sound [] (advance_order t) z)
 
   pub complete-accepted : number_of (complete_of t).answer ≡ 0 → sound_of (complete_of t).table ≡ true
   complete-accepted z = completed_sound t (accepted-sound [] (complete_order t) z)

@@ -11,13 +11,6 @@ use Rattle.layout.specs.Places.{FLOATS, NUMBERS}
 use Rattle.layout.specs.Standing.{room_for, words_fit, sound_in, frame_at}
 use Rattle.layout.proofs.standing.stands_sound.Goals as goal
 
-pub frame_at-frame-requires : goal.frame_at-frame-requires
-frame_at-frame-requires c =
-    let start = c.args in
-    let n = length start.numbers.now in
-    let both = and_both (room_for start.floats n) (words_fit start.numbers.now) (sym c.stands.ensures ∙ c.if-stands.true) in
-    leb-true _ _ (and_both (leb FLOATS start.floats) (leb NUMBERS n) both.0).1
-
 pub returns-then-stands : goal.returns-then-stands
 unfolding sound_in
 returns-then-stands c =

@@ -9,7 +9,7 @@ pub walk_from-requires : goal.walk_from-requires
 walk_from-requires c =
     let start = c.args in
     let both = and_both (ltb start.seat start.n) (leb start.n 16) c.if-seat-n.true in
-    record { seat_lt_n = ltb-true _ _ both.0; n_bound = leb-true _ _ both.1 }
+    ltb-true _ _ both.0
 
 pub returns-then-seat-n : goal.returns-then-seat-n
 unfolding walk_of

@@ -1,23 +1,23 @@
--- `rounds::walking::walk_from`: the next seat, or the seat so many places on, below n or once round. Assumes nothing.
+-- `rounds::walking::walk_from`: what the loop knows is `Stands`, and each end of it is a law there. Assumes nothing.
+use native.Mathlib.Nat.{mod-lt}
+use Prim.Native.Nat.{◌-◌}
 use native.Mathlib.Omega.{arith}
-use mathlib.Core.Path.{sym, ◌∙◌}
 use borrow.Author.Rules.{rules}
-use Rattle.rounds.proofs.Walk.{distance_high}
-use Rattle.rounds.proofs.LawsAhead.{next-owes, seat-below, seat-round}
+use mathlib.Core.Path.{sym, ◌∙◌}
+use Rattle.rounds.proofs.Loop.{Stands, begins, goes_on, found, none}
 use Rattle.rounds.proofs.walking.walk_from.Goals as goal
 
+pub next-at-requires : goal.next-at-requires
+next-at-requires c = rw c.loop-passed.invariant.place (mod-lt _ (omega (arith, c.requires)))
+
+pub loop-passed-init : goal.loop-passed-init
+loop-passed-init c = begins _ _ _ c.requires
+
 pub returns-then-has : goal.returns-then-has
-returns-then-has c =
-    next-owes _ _ _ c.requires.seat_lt_n c.requires.n_bound _ c.next-one.ensures (sym c.has.ensures ∙ c.if-has.true)
+returns-then-has c = found _ _ _ _ _ _ c.loop-passed.invariant c.loop-passed-test.true c.next-at.ensures (sym c.has.ensures ∙ c.if-has.true)
 
-pub overflow_add-at : goal.overflow_add-at
-overflow_add-at c =
-    omega (arith, c.distance_to-passed.ensures, distance_high c.args.owing c.args.n c.args.seat c.requires.seat_lt_n, c.requires.seat_lt_n, c.requires.n_bound)
-
-pub returns-then-at-n : goal.returns-then-at-n
-returns-then-at-n c =
-    seat-below _ _ _ c.requires.seat_lt_n c.requires.n_bound _ c.distance_to-passed.ensures c.if-at-n.true
+pub loop-passed-preserved : goal.loop-passed-preserved
+loop-passed-preserved c = goes_on _ _ _ _ _ _ c.loop-passed.invariant c.loop-passed-test.true c.next-at.ensures (sym c.has.ensures ∙ c.if-has.false)
 
 pub returns : goal.returns
-returns c =
-    seat-round _ _ _ c.requires.seat_lt_n c.requires.n_bound _ c.distance_to-passed.ensures c.if-at-n.false
+returns c = none _ _ _ _ _ _ c.loop-passed.invariant c.loop-passed-test.false c.next.ensures
