@@ -28,7 +28,7 @@ fn must_be_ours(linked: Told) {
     assert!(
         linked == OURS,
         "the libpeatcloak.a that is linked has {}; this crate is written for {}. Link the library of the crate's own \
-         repository (`rt staticlib peatcloak` writes it, PEATCLOAK_LIB names its folder), or take the crate that goes \
+         repository (`oracle/library` writes it, PEATCLOAK_LIB names its folder), or take the crate that goes \
          with this library.",
         shown(linked),
         shown(OURS)
@@ -61,7 +61,7 @@ mod tests {
             other[at] += 1;
             let panicked = catch_unwind(|| must_be_ours(other)).expect_err("it is another");
             let message = panicked.downcast::<String>().expect("a text");
-            for part in [&shown(other), &shown(OURS), "rt staticlib peatcloak", "PEATCLOAK_LIB"] {
+            for part in [&shown(other), &shown(OURS), "oracle/library", "PEATCLOAK_LIB"] {
                 assert!(message.contains(part), "{message}");
             }
         }
