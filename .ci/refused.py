@@ -7,7 +7,8 @@ same words. So an edit keeps the code's branches, calls and names, and its reade
 
 The words are those of the toolchains VERSIONS, collected from the logs of all wrong programs. Another toolchain may say it otherwise:
 then the words are unknown and fail, and other_toolchain says in a line that the lists must be looked at again. The logs in .ci/logs
-are the test of the lists: each says first how it must be judged, and each entry of the lists has one at least.
+are the test of the lists: each says first how it must be judged, and each entry of the lists has one at least. Where a function has
+no answer of its own to a goal, the prover tries it by itself: what it says then is a note at the function's place in src/.
 """
 import pathlib
 import re
@@ -15,16 +16,16 @@ import subprocess
 from collections import namedtuple
 
 LOGS = pathlib.Path(__file__).resolve().parent / "logs"
-VERSIONS = ("rattle-kit-5b logic 064da1ca440f63e7", "rattle-kit-5b-plain logic 097e4c862dff5811")
+VERSIONS = ("rattle-kit-13f logic dac8208d650f15bf",)
 Complaint = namedtuple("Complaint", "file row need said")
 
 # What is said is read with § for each quoted term, and §place for the name of a need or of a place in the code.
-QUOTED = re.compile(r"`(?:(tie\.[^`]*|[^`\s]*\.(?:Tie|Lts)\.[^`\s]*)|[^`]*)`")
+QUOTED = re.compile(r"`(?:(goal\.[^`\s]*|[^`\s]*\.(?:Goals|Tie|Lts)\.[^`\s]*)|[^`]*)`")
 DIFFER = (
     r"the two (?:types|values|sides) (?:first differ|differ only) where one has § \((?:expected|found|left)\)"
     r"(?:, (?:right after §|at the start),?)? and the other has § \((?:found|required|right)\)"
 )
-PRINTED = rf"as printed, {DIFFER}(?:, the one beneath the binder §)? "
+PRINTED = rf"as printed, {DIFFER}(?:, (?:the one|both) beneath the binder §(?:, the other beneath (?:the binder )?§)?)? "
 UNSEEN = r"what the two (?:types|values) compute to is not shown, because [^(]*\([^)]*\)"
 TYPES = r"expected type §,? but this has type §"
 FOLDED = r"§(?:, §)*(?: \(of §\))? do(?:es)? not unfold here: "
@@ -35,8 +36,8 @@ FORMS = {
     "whole": rf"(?:{PRINTED}|{TYPES} )?computed as far as they go, the two (?:types|values) are § \((?:expected|found)\) and § \((?:found|required)\)",
     # They are not the same, and are shown as they are written: an argument is open, or they are too long to compute.
     "written": rf"{PRINTED}(?:{UNSEEN} )?(?:{FOLDED}.*)?{TYPES}|{TYPES} {UNSEEN}(?: {FOLDED}.*)?$",
-    # The same, where one of the two is shown computed.
-    "one side": rf"{TYPES} here § is .* computed as far as it goes, the (?:expected|found) one begins §",
+    # The same, where one of the two is shown computed, or both.
+    "shown": rf"{TYPES} (?:.* )?(?:one side \((?:expected|found)\) is|both types are) shown computed, as a hole's goal is",
     # The same, where what is computed is too long to be shown: its start is the same, and a part of it is not.
     "by parts": rf"{PRINTED}computed as far as they go, the first \d+ bytes of the two types are identical .*{TYPES} "
     r"compared part by part, the two types first differ at ",
@@ -47,13 +48,14 @@ FORMS = {
     # `simp` or `rw` has put in all that is known, and the two sides are not the same.
     "left over": r"give a proof of that as the last argument, § \(§ shows it as a hole's goal\), or add what is missing to the list "
     r"§ has no last argument, so what it leaves must be a path whose two ends are equal, and § is none$",
-    # `omega` names numbers at which all that is known holds and the goal does not.
-    "numbers": r"§: the goal does not follow from what it read\. All of that holds, and the goal fails, at § = ",
+    # `omega` or `grind` names values at which all that is known holds and the goal does not.
+    "numbers": r"§: the goal does not follow(?: from what it read\. All of that holds, and the goal fails, at §|\. The hypotheses hold, and the goal fails at §)",
     # `search` found no proof, within its own bounds; where the call broke off it says so, and that is no fact.
     "search": r"§: no proof of § was found\. ",
-    # The same of a function with no proof file: the checker's own search.
-    "own search": r"it is not proved that what the function ensures holds when it returns \(§\) "
-    r"what antt said of a § in the proof that rattle made: \S+ §: §: no proof of § was found\. ",
+    # The checker's own search, at a goal with no answer: it found values at which all that is known holds and the goal does not.
+    "values": r"it is not proved that .*? \(§\); the facts known there allow values at which this goal is false$",
+    # The same, with no values, where every way was tried to its end; where one gave up at a limit it says so, and that is no fact.
+    "own search": r"it is not proved that .*? \(§\)$",
 }
 HOLLOW = {
     # The code has other places or needs: whatever else is said of the function may come from that.
@@ -67,11 +69,16 @@ HOLLOW = {
     # The two are not told apart. (Where only the start is shown, and is the same, a form above must say where they part.)
     "identical": r"(?<!bytes of )the two types are identical",
     # It stands on something that was refused before.
-    "follows": r"§ was not admitted",
+    "follows": r"§, which was (?:not admitted|rejected), (?:was|were) not checked|§ was not admitted",
 }
-# A return, a loop, or what a proof by hand shows where the function ends.
-NEED = re.compile(r"(?:returns|loop\d*-(?:holds|again|less))(?:-\d+)?|exits")
-HEAD = re.compile(r"(?:note: (?=\S+:\d+:\d+: ))?(?:([^\s:]+):(\d+):\d+: (?!note: )|(?=error))(.*)")
+# The goals of a function, by their kinds: what it promises, at a return; what a loop keeps, and that it ends; what a callee asks; and
+# that each step is safe.
+NEED = re.compile(
+    r"(?:returns|loop-\w+-(?:init|preserved)|decreases|(?:overflow|nonzero|float)_\w+|bounds|offset_bounds|shape_of)(?:-.*)?|.*-requires"
+)
+HEAD = re.compile(r"(?:note: (?=\S+:\d+:\d+: ))?(?:(?:\./)?([^\s:]+):(\d+):\d+: (?!note: )|(?=error))(.*)")
+# The files of a function's proof, by its name; those of a recursive one stand in a folder with a plus.
+OF_A_FUNCTION = re.compile(r"proofs/(.*/)?\+?([^/+]+)/(?:Answers|Invariants|Proof)\.antt")
 
 
 def complaints(text):
@@ -82,13 +89,19 @@ def complaints(text):
         head = HEAD.match(block)
         if head:
             file, row, what = head.groups()
-            need = re.match(r"error: `([^`]+)`: ", what) or re.search(r"\(`([^`]+)`\)$", what) or re.search(r"`([^`]+)`", what)
+            need = re.match(r"error: `([^`]+)`: ", what) or re.search(r"\(`([^`]+)`\)(?:;|$)", what) or re.search(r"`([^`]+)`", what)
             said = QUOTED.sub(lambda m: "§place" if m.group(1) else "§", what).removeprefix("error: §: ")
             found.append(Complaint(file or "", int(row or 0), need.group(1) if need else "?", said))
-        elif found and re.search(rf"what antt said of|{HOLLOW['admitted']}", block):
+        elif found and re.search(HOLLOW["admitted"], block):
             more = QUOTED.sub("§", block.removeprefix("note: "))
             found[-1] = found[-1]._replace(said=f"{found[-1].said} {more}")
     return found
+
+
+def whose(complaint):
+    """The name of the function whose proof a complaint stands in, if it stands in one."""
+    found = OF_A_FUNCTION.fullmatch(complaint.file)
+    return (found.group(1) or "") + found.group(2) if found else ""
 
 
 def hollow(said):
@@ -109,10 +122,10 @@ def judged(text, own=None, files=()):
     in a law. A law of each of the files must be among what is refused at a fact.
     """
     said = complaints(text)
-    mine = [c for c in said if not c.file.endswith("/Proof.antt")]
+    mine = [c for c in said if not whose(c) and not c.file.startswith("src/")]
     if own:
         at, a, b, name = own
-        mine = [c for c in said if c.file == f"proofs/{name}/Proof.antt" or c.file == f"src/{at}" and a <= c.row <= b]
+        mine = [c for c in said if whose(c) == name or c.file == f"src/{at}" and a <= c.row <= b]
     if not mine:
         return "look", "no complaint of its own"
     first = next((c for c in mine if own and hollow(c.said) == "shape"), mine[0])
