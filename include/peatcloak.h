@@ -37,8 +37,8 @@ extern "C" {
 
 /* ---- Written by .ci/layout from crates/layout/src/places.rt */
 
-/* The library's version: 20301 is 2.3.1. The layout's goes up when a place moves or is added. */
-#define PEATCLOAK_VERSION 20301
+/* The library's version: 20300 is 2.3.0. The layout's goes up when a place moves or is added. */
+#define PEATCLOAK_VERSION 20300
 #define PEATCLOAK_LAYOUT 2
 
 /* How many places each list has. */

@@ -3,8 +3,8 @@
 
 #![allow(missing_docs, reason = "a place is named after what stands there")]
 
-/// The library's version: 20301 is 2.3.1. The layout's goes up when a place moves or is added.
-pub const VERSION: u32 = 20301;
+/// The library's version: 20300 is 2.3.0. The layout's goes up when a place moves or is added.
+pub const VERSION: u32 = 20300;
 pub const LAYOUT: u32 = 2;
 
 /// How many places each list has.
