@@ -31,18 +31,18 @@ TYPES = r"expected type §,? but this has type §"
 FOLDED = r"§(?:, §)*(?: \(of §\))? do(?:es)? not unfold here: "
 FORMS = {
     # What the proof shows and what is asked were computed, and a part is not the same.
-    "computed": rf"(?:{PRINTED})?computed as far as they go, {DIFFER}",
+    "computed": rf"(?:{PRINTED}|{TYPES} )?computed as far as they go, {DIFFER}",
     # The same, with both shown whole: `refl` at `false ≡ true`, of a table of cases.
     "whole": rf"(?:{PRINTED}|{TYPES} )?computed as far as they go, the two (?:types|values) are § \((?:expected|found)\) and § \((?:found|required)\)",
     # They are not the same, and are shown as they are written: an argument is open, or they are too long to compute.
-    "written": rf"{PRINTED}(?:{UNSEEN} )?(?:{FOLDED}.*)?{TYPES}|{TYPES} {UNSEEN}(?: {FOLDED}.*)?$",
+    "written": rf"{PRINTED}(?:{UNSEEN} )?(?:{FOLDED}.*)?{TYPES}|{TYPES}(?: {UNSEEN}(?: {FOLDED}.*)?)?$",
     # The same, where one of the two is shown computed, or both.
     "shown": rf"{TYPES} (?:.* )?(?:one side \((?:expected|found)\) is|both types are) shown computed, as a hole's goal is",
     # The same, where what is computed is too long to be shown: its start is the same, and a part of it is not.
     "by parts": rf"{PRINTED}computed as far as they go, the first \d+ bytes of the two types are identical .*{TYPES} "
     r"compared part by part, the two types first differ at ",
     # Two terms had to be the same and are not, once what was open in them was known.
-    "turned out": r"§ ≟ § does not hold \(this comparison, made at this position, had to wait for a metavariable; it turned out false ",
+    "turned out": r"§ ≟ §:? does not hold \(this comparison, made at this position, had to wait for a metavariable; it turned out false ",
     # A path is given as a λ, and one of its ends is not what is asked.
     "end": rf"(?:{PRINTED}(?:{UNSEEN} )?)?on the face § this λ's body is §,? but the extension \(path\) type requires § there(?: {UNSEEN})?$",
     # `simp` or `rw` has put in all that is known, and the two sides are not the same.
@@ -74,7 +74,8 @@ HOLLOW = {
 # The goals of a function, by their kinds: what it promises, at a return; what a loop keeps, and that it ends; what a callee asks; and
 # that each step is safe.
 NEED = re.compile(
-    r"(?:returns|loop-\w+-(?:init|preserved)|decreases|(?:overflow|nonzero|float)_\w+|bounds|offset_bounds|shape_of)(?:-.*)?|.*-requires"
+    r"(?:returns|loop-\w+-(?:init|preserved|smaller)|decreases|(?:overflow|nonzero|float|int|truncating)_\w+|(?:\w+_)?bounds|shape_of)(?:-.*)?"
+    r"|.*-requires(?:-.*)?"
 )
 HEAD = re.compile(r"(?:note: (?=\S+:\d+:\d+: ))?(?:(?:\./)?([^\s:]+):(\d+):\d+: (?!note: )|(?=error))(.*)")
 # The files of a function's proof, by its name; those of a recursive one stand in a folder with a plus.
