@@ -1,95 +1,147 @@
 // A hand appended to a file: whole, by one write, and synced. Where that fails the file is cut back to what stood before.
 use crate::cards::BLOCK;
 use crate::statuses::{DONE, FAILED};
-use crate::telling::{say, say_key, say_number};
-use crate::{cards, inputs, numbers, telling};
+use crate::telling::{fail, say, say_key, say_number};
+use crate::{cards, inputs, numbers};
 use keys::HandKey;
+use std::fs::File;
+use std::io::{Error, Result, Write};
 
-fn say_hand(key: HandKey, what: &[u8]) {
-    say(b"journal: hand ");
-    say_key(key);
-    say(what);
+fn say_hand(rt: &HostRuntime, key: HandKey, what: &[u8]) {
+    say(rt, b"journal: hand ");
+    say_key(rt, key);
+    say(rt, what);
 }
 
 // What another program has put there is not cut off.
-fn not_cut_back(path: &[u8]) {
-    say(b"journal: another program has written behind what stood, so nothing is cut back: ");
-    say(path);
-    say(b"\n");
+fn not_cut_back(rt: &HostRuntime, path: &[u8]) {
+    say(
+        rt,
+        b"journal: another program has written behind what stood, so nothing is cut back: ",
+    );
+    say(rt, path);
+    say(rt, b"\n");
+}
+
+// The newer of two reasons: why the length was not set, or else what failed before.
+fn reason_of(cut: Result<()>, before: Error) -> Error {
+    match cut {
+        Ok(()) => before,
+        Err(error) => error,
+    }
 }
 
 // Cuts off the bytes that were put behind those that stood. A device has no length to be set, so that the size decides whether all is as before.
-fn cut_back(path: &[u8], fd: i32, stood: usize, put: usize) {
-    if numbers::plus(stood, put) < cards::size_of(fd) {
-        not_cut_back(path);
+fn cut_back(
+    rt: &HostRuntime,
+    path: &[u8],
+    file: &File,
+    stood: usize,
+    put: usize,
+    before: Error,
+) {
+    if numbers::plus(stood, put) < cards::size_of(file) {
+        not_cut_back(rt, path);
         return;
     }
-    libc::ftruncate(fd, inputs::place_of(stood));
-    if cards::size_of(fd) != stood {
-        say(b"journal: that hand may stand there, and the file cannot be cut back: ");
-        os::fail(path);
+    let cut = file.set_len(inputs::place_of(stood));
+    if cards::size_of(file) != stood {
+        say(
+            rt,
+            b"journal: that hand may stand there, and the file cannot be cut back: ",
+        );
+        fail(rt, path, reason_of(cut, before));
         return;
     }
-    if libc::fsync(fd) != 0 {
-        say(b"journal: cutting it back is not synced: ");
-        os::fail(path);
+    if let Err(error) = file.sync_all() {
+        say(rt, b"journal: cutting it back is not synced: ");
+        fail(rt, path, error);
     }
-    say(b"journal: ");
-    say(path);
-    say(b" is cut back to what stood before that hand: blocks ");
-    say_number((stood / BLOCK) as u64);
-    say(b"\n");
+    say(rt, b"journal: ");
+    say(rt, path);
+    say(rt, b" is cut back to what stood before that hand: blocks ");
+    say_number(rt, (stood / BLOCK) as u64);
+    say(rt, b"\n");
 }
 
 // A write that fails puts nothing there.
-fn not_written(path: &[u8], fd: i32, key: HandKey, stood: usize) -> u8 {
-    say_hand(key, b" is not written: ");
-    os::fail(path);
-    cut_back(path, fd, stood, 0);
+fn not_written(
+    rt: &HostRuntime,
+    path: &[u8],
+    file: &File,
+    key: HandKey,
+    stood: usize,
+    error: Error,
+) -> u8 {
+    say_hand(rt, key, b" is not written: ");
+    fail(rt, path, error);
+    cut_back(rt, path, file, stood, 0, error);
     FAILED
 }
 
 // A write that takes a part tells no reason.
-fn short_write(path: &[u8], fd: i32, key: HandKey, stood: usize, put: usize) -> u8 {
-    say_hand(key, b" is not written: ");
-    say(path);
-    say(b": no room for more than ");
-    say_number(put as u64);
-    say(b" bytes of it\n");
-    cut_back(path, fd, stood, put);
+fn short_write(
+    rt: &HostRuntime,
+    path: &[u8],
+    file: &File,
+    key: HandKey,
+    stood: usize,
+    put: usize,
+) -> u8 {
+    say_hand(rt, key, b" is not written: ");
+    say(rt, path);
+    say(rt, b": no room for more than ");
+    say_number(rt, put as u64);
+    say(rt, b" bytes of it\n");
+    cut_back(rt, path, file, stood, put, Error::from_raw_os_error(0));
     FAILED
 }
 
-fn not_synced(path: &[u8], fd: i32, key: HandKey, stood: usize, put: usize) -> u8 {
-    say_hand(key, b" is not synced: ");
-    os::fail(path);
-    cut_back(path, fd, stood, put);
+fn not_synced(
+    rt: &HostRuntime,
+    path: &[u8],
+    file: &File,
+    key: HandKey,
+    stood: usize,
+    put: usize,
+    error: Error,
+) -> u8 {
+    say_hand(rt, key, b" is not synced: ");
+    fail(rt, path, error);
+    cut_back(rt, path, file, stood, put, error);
     FAILED
 }
 
 // Behind what another program has put there nothing is appended: nobody has checked it.
-fn is_changed(path: &[u8], key: HandKey) -> u8 {
-    say_hand(key, b" is not written: another program has changed ");
-    say(path);
-    say(b"\n");
+fn is_changed(rt: &HostRuntime, path: &[u8], key: HandKey) -> u8 {
+    say_hand(rt, key, b" is not written: another program has changed ");
+    say(rt, path);
+    say(rt, b"\n");
     FAILED
 }
 
 // The bytes of a hand behind so many that stand.
-pub fn append(path: &[u8], fd: i32, key: HandKey, hand: &[u8], stood: usize) -> u8 {
-    if cards::size_of(fd) != stood {
-        return is_changed(path, key);
+pub fn append(
+    rt: &HostRuntime,
+    path: &[u8],
+    mut file: &File,
+    key: HandKey,
+    hand: &[u8],
+    stood: usize,
+) -> u8 {
+    if cards::size_of(file) != stood {
+        return is_changed(rt, path, key);
     }
-    let answer = libc::write(fd, hand);
-    if answer < 0 {
-        return not_written(path, fd, key, stood);
-    }
-    let put = io::count(answer, hand);
+    let answer = file.write(hand);
+    let put = match answer {
+        Ok(n) => n,
+        Err(error) => return not_written(rt, path, file, key, stood, error),
+    };
     if put < hand.len() {
-        return short_write(path, fd, key, stood, put);
+        return short_write(rt, path, file, key, stood, put);
     }
-    if libc::fsync(fd) != 0 {
-        return not_synced(path, fd, key, stood, put);
+    if let Err(error) = file.sync_all() {
+        return not_synced(rt, path, file, key, stood, put, error);
     }
     DONE
 }

@@ -1,6 +1,9 @@
 // A card: a file of blocks. It is read in pieces as long as the longest hand.
-use crate::inputs;
 use crate::inputs::Source;
+use crate::{files, inputs};
+use std::fs::File;
+use std::io::{Error, Read, Result, Seek, SeekFrom};
+use std::os::fd::AsRawFd;
 
 // The bytes of a block.
 pub const BLOCK: usize = 512;
@@ -15,72 +18,78 @@ pub type Room = [u8; ROOM];
 pub const NO_BYTES: Room = [0; ROOM];
 
 // An open file: its whole blocks, and whether a part of one stands behind them.
-#[derive(Clone, Copy)]
+#[derive(Drop)]
 pub struct Card {
-    pub fd: i32,
+    pub file: File,
     pub blocks: usize,
     pub has_tail: bool,
 }
 
 // A file that is opened; or it is not, it cannot be read or has no size, or it took the number of a standard stream.
-#[derive(Clone, Copy)]
+#[derive(Drop)]
 pub enum Opened {
     Card(Card),
-    NotOpened,
-    NotRead,
+    NotOpened(Error),
+    NotRead(Error),
     StreamClosed,
 }
 
-// How many blocks were read, and whether no read failed behind them: errno tells why.
+// How many blocks were read, and why a read failed behind them, if one did.
 #[derive(Clone, Copy)]
 pub struct Filled {
     pub blocks: usize,
-    pub is_read: bool,
+    pub failed: Option<Error>,
 }
 
-fn wide(size: i64) -> usize {
-    if 0 < size {
+fn wide(size: u64) -> usize {
+    if size < 9_223_372_036_854_775_808 {
         return size as usize;
     }
     0
 }
 
 // The bytes of a file that has a size.
-pub fn size_of(fd: i32) -> usize {
-    wide(libc::lseek(fd, 0, libc::SEEK_END))
+pub fn size_of(mut file: &File) -> usize {
+    match file.seek(SeekFrom::End(0)) {
+        Ok(size) => wide(size),
+        Err(_) => 0,
+    }
 }
 
 // A read of no bytes shows a folder, which may have a size, and a pipe has none.
-fn is_readable(fd: i32) -> bool {
+fn is_readable(mut file: &File) -> Result<()> {
     let mut none = [0u8; 0];
-    if libc::read(fd, &mut none) < 0 {
-        return false;
-    }
-    0 <= libc::lseek(fd, 0, libc::SEEK_END)
+    file.read(&mut none)?;
+    file.seek(SeekFrom::End(0))?;
+    Ok(())
 }
 
 // A file that took the number of a standard stream would be written to by what is printed.
-pub fn is_stream(fd: i32) -> bool {
-    fd < 3
+pub fn is_stream(file: &File) -> bool {
+    file.as_raw_fd() < 3
 }
 
-pub fn open_card(path: &[u8]) -> Opened {
-    let fd = os::open_read(path);
-    if fd < 0 {
-        return Opened::NotOpened;
-    }
-    if is_stream(fd) {
+// An open file as a card.
+fn card_of(file: File) -> Opened {
+    if is_stream(&file) {
         return Opened::StreamClosed;
     }
-    if !is_readable(fd) {
-        return Opened::NotRead;
+    if let Err(error) = is_readable(&file) {
+        return Opened::NotRead(error);
     }
-    let bytes = size_of(fd);
+    let bytes = size_of(&file);
     Opened::Card(Card {
-        fd,
+        file,
         blocks: bytes / BLOCK,
         has_tail: bytes % BLOCK != 0,
     })
+}
+
+pub fn open_card(rt: &HostRuntime, path: &[u8]) -> Opened {
+    match files::open_read(rt, path) {
+        Ok(file) => card_of(file),
+        Err(error) => Opened::NotOpened(error),
+    }
 }
 
 // The place of a block. A file has fewer bytes than the limit.
@@ -92,19 +101,20 @@ pub fn start_of(block: usize) -> usize {
 }
 
 // The blocks from one on, as many as the room and the card have.
-pub fn read_blocks(card: Card, block: usize, room: &mut [u8]) -> Filled {
+pub fn read_blocks(card: &Card, block: usize, room: &mut [u8]) -> Filled {
     let most = room.len() / BLOCK;
     let blocks = commons::smaller(commons::less(card.blocks, block), most);
     if blocks <= most {
         let len = blocks * BLOCK;
-        let got = inputs::read_full(card.fd, Source::From(start_of(block)), &mut room[0..len]);
+        let from = Source::From(&card.file, start_of(block));
+        let got = inputs::read_full(from, &mut room[0..len]);
         return Filled {
             blocks: got.bytes / BLOCK,
-            is_read: got.is_read,
+            failed: got.failed,
         };
     }
     Filled {
         blocks: 0,
-        is_read: true,
+        failed: None,
     }
 }

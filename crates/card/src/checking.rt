@@ -2,40 +2,41 @@
 use crate::cards::Card;
 use crate::walking::Next;
 use crate::{progress, walking};
+use std::io::Error;
 
 // Whether every hand reads, and why not.
 #[derive(Clone, Copy)]
 pub enum Checked {
     Good,
     Bad(usize),
-    NotRead,
+    NotRead(Error),
 }
 
 // Hands up to the first that is none.
-fn walk(card: Card, room: &mut [u8]) -> Next {
+fn walk(rt: &HostRuntime, card: &Card, room: &mut [u8]) -> Next {
     let mut place = walking::START;
-    let mut bar = progress::begin();
+    let mut bar = progress::begin(rt);
     for _ in 0..walking::turns(card) {
         let step = walking::next_hand(card, place, room);
         let next = step.next;
         if !walking::is_hand(next) {
-            progress::end(bar);
+            progress::end(rt, bar);
             return next;
         }
         let on = step.place;
         place = on;
-        let more = progress::moved(bar, place.at, card.blocks);
+        let more = progress::moved(rt, bar, place.at, card.blocks);
         bar = more;
     }
-    progress::end(bar);
+    progress::end(rt, bar);
     Next::End
 }
 
-pub fn check(card: Card, room: &mut [u8]) -> Checked {
-    match walk(card, room) {
+pub fn check(rt: &HostRuntime, card: &Card, room: &mut [u8]) -> Checked {
+    match walk(rt, card, room) {
         Next::Hand(_) => Checked::Good,
         Next::End => Checked::Good,
         Next::Bad(block) => Checked::Bad(block),
-        Next::NotRead => Checked::NotRead,
+        Next::NotRead(error) => Checked::NotRead(error),
     }
 }

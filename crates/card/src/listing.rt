@@ -4,26 +4,27 @@ use crate::checking::Checked;
 use crate::statuses::DONE;
 use crate::walking::{Hand, Next};
 use crate::{cards, checking, lines, telling, walking};
+use std::io::Result;
 
-fn print_hand(h: Hand) -> bool {
+fn print_hand(rt: &HostRuntime, h: Hand) -> Result<()> {
     let key = h.key;
-    lines::print_line(key, h.first, h.blocks)
+    lines::print_line(rt, key, h.first, h.blocks)
 }
 
-fn print_all(path: &[u8], card: Card, room: &mut [u8]) -> u8 {
+fn print_all(rt: &HostRuntime, path: &[u8], card: &Card, room: &mut [u8]) -> u8 {
     let mut place = walking::START;
     for _ in 0..walking::turns(card) {
         let step = walking::next_hand(card, place, room);
         let next = step.next;
         match next {
             Next::Hand(h) => {
-                if !print_hand(h) {
-                    return telling::not_printed();
+                if let Err(error) = print_hand(rt, h) {
+                    return telling::not_printed(rt, error);
                 }
             }
             Next::End => return DONE,
-            Next::Bad(block) => return telling::bad_journal(path, block),
-            Next::NotRead => return telling::not_read(path),
+            Next::Bad(block) => return telling::bad_journal(rt, path, block),
+            Next::NotRead(error) => return telling::not_read(rt, path, error),
         }
         let on = step.place;
         place = on;
@@ -31,20 +32,20 @@ fn print_all(path: &[u8], card: Card, room: &mut [u8]) -> u8 {
     DONE
 }
 
-fn list_card(path: &[u8], card: Card) -> u8 {
+fn list_card(rt: &HostRuntime, path: &[u8], card: &Card) -> u8 {
     let mut room = cards::NO_BYTES;
-    match checking::check(card, &mut room) {
-        Checked::Good => print_all(path, card, &mut room),
-        Checked::Bad(block) => telling::bad_journal(path, block),
-        Checked::NotRead => telling::not_read(path),
+    match checking::check(rt, card, &mut room) {
+        Checked::Good => print_all(rt, path, card, &mut room),
+        Checked::Bad(block) => telling::bad_journal(rt, path, block),
+        Checked::NotRead(error) => telling::not_read(rt, path, error),
     }
 }
 
-pub fn list(path: &[u8]) -> u8 {
-    match cards::open_card(path) {
-        Opened::Card(card) => list_card(path, card),
-        Opened::NotOpened => telling::not_opened(path),
-        Opened::NotRead => telling::not_read(path),
-        Opened::StreamClosed => telling::stream_closed(),
+pub fn list(rt: &HostRuntime, path: &[u8]) -> u8 {
+    match cards::open_card(rt, path) {
+        Opened::Card(card) => list_card(rt, path, &card),
+        Opened::NotOpened(error) => telling::not_opened(rt, path, error),
+        Opened::NotRead(error) => telling::not_read(rt, path, error),
+        Opened::StreamClosed => telling::stream_closed(rt),
     }
 }

@@ -6,6 +6,7 @@ mod arguments;
 mod cards;
 mod checking;
 mod commands;
+mod files;
 mod finding;
 mod hands;
 mod inputs;
@@ -23,14 +24,14 @@ mod walking;
 
 use arguments::StatusTo;
 
-fn main() {
-    match arguments::status_to() {
+fn main(rt: HostRuntime) {
+    match arguments::status_to(&rt) {
         StatusTo::Nobody => {
-            commands::run();
+            commands::run(&rt);
         }
-        StatusTo::Descriptor(fd) => statuses::tell(fd, commands::run()),
+        StatusTo::Descriptor(fd) => statuses::tell(&rt, fd, commands::run(&rt)),
         StatusTo::Nowhere => {
-            telling::wrong_use();
+            telling::wrong_use(&rt);
         }
     }
 }

@@ -1,7 +1,7 @@
 // How far a long file is read, where standard error is a terminal: one line, written anew every 1,024 blocks, gone at the end.
 use crate::numbers;
 use crate::telling::{say, say_number};
-use libc::STDERR_FILENO;
+use std::io::IsTerminal;
 
 const STRIDE: usize = 1024;
 
@@ -13,22 +13,22 @@ pub struct Bar {
     is_shown: bool,
 }
 
-pub fn begin() -> Bar {
+pub fn begin(rt: &HostRuntime) -> Bar {
     Bar {
-        is_seen: libc::isatty(STDERR_FILENO) == 1,
+        is_seen: rt.stderr().is_terminal(),
         next: STRIDE,
         is_shown: false,
     }
 }
 
-pub fn moved(b: Bar, block: usize, blocks: usize) -> Bar {
+pub fn moved(rt: &HostRuntime, b: Bar, block: usize, blocks: usize) -> Bar {
     if !b.is_seen | (block < b.next) {
         return b;
     }
-    say(b"\rjournal: block ");
-    say_number(block as u64);
-    say(b" of ");
-    say_number(blocks as u64);
+    say(rt, b"\rjournal: block ");
+    say_number(rt, block as u64);
+    say(rt, b" of ");
+    say_number(rt, blocks as u64);
     Bar {
         is_seen: true,
         next: numbers::plus(block, STRIDE),
@@ -36,8 +36,11 @@ pub fn moved(b: Bar, block: usize, blocks: usize) -> Bar {
     }
 }
 
-pub fn end(b: Bar) {
+pub fn end(rt: &HostRuntime, b: Bar) {
     if b.is_shown {
-        say(b"\r                                                              \r");
+        say(
+            rt,
+            b"\r                                                              \r",
+        );
     }
 }

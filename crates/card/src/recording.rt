@@ -1,5 +1,6 @@
 // `record`: the hands of the script on standard input, appended to a file one by one.
 use crate::cards::BLOCK;
+use crate::files::ENOENT;
 use crate::inputs::Source;
 use crate::standing::Standing;
 use crate::statuses::DONE;
@@ -9,9 +10,10 @@ use journal::block::Title;
 use journal::hand;
 use journal::hand::HandWritten;
 use keys::HandKey;
-use libc::STDIN_FILENO;
 use recorder::recording::next_hand;
 use refusals::JournalError;
+use std::fs::File;
+use std::io::Error;
 
 // One byte more than a script has: it tells that one is too long.
 const SCRIPT: usize = 65_537;
@@ -29,37 +31,38 @@ struct Kept {
     bytes: usize,
 }
 
-fn print_kept(key: HandKey, blocks: usize, bytes: usize) -> Kept {
-    if lines::print_line(key, blocks, 0) {
-        return Kept {
+fn print_kept(rt: &HostRuntime, key: HandKey, blocks: usize, bytes: usize) -> Kept {
+    match lines::print_line(rt, key, blocks, 0) {
+        Ok(()) => Kept {
             status: DONE,
             bytes,
-        };
-    }
-    Kept {
-        status: telling::recorded_not_printed(key),
-        bytes,
+        },
+        Err(error) => Kept {
+            status: telling::recorded_not_printed(rt, key, error),
+            bytes,
+        },
     }
 }
 
 // A hand that is not written has its line too.
-fn print_denied(key: HandKey, why: JournalError, bytes: usize) -> Kept {
-    if lines::print_line(key, 0, why.number() as usize) {
-        return Kept {
+fn print_denied(rt: &HostRuntime, key: HandKey, why: JournalError, bytes: usize) -> Kept {
+    match lines::print_line(rt, key, 0, why.number() as usize) {
+        Ok(()) => Kept {
             status: DONE,
             bytes,
-        };
-    }
-    Kept {
-        status: telling::not_printed(),
-        bytes,
+        },
+        Err(error) => Kept {
+            status: telling::not_printed(rt, error),
+            bytes,
+        },
     }
 }
 
 // A hand's blocks, which stand first in the room, behind so many bytes of the file.
 fn keep_blocks(
+    rt: &HostRuntime,
     path: &[u8],
-    fd: i32,
+    file: &File,
     key: HandKey,
     room: &[u8],
     blocks: usize,
@@ -67,18 +70,19 @@ fn keep_blocks(
 ) -> Kept {
     if blocks <= room.len() / BLOCK {
         let len = blocks * BLOCK;
-        let status = appending::append(path, fd, key, &room[0..len], bytes);
+        let status = appending::append(rt, path, file, key, &room[0..len], bytes);
         if status == DONE {
-            return print_kept(key, blocks, numbers::plus(bytes, len));
+            return print_kept(rt, key, blocks, numbers::plus(bytes, len));
         }
         return Kept { status, bytes };
     }
-    print_denied(key, JournalError::NotKept, bytes)
+    print_denied(rt, key, JournalError::NotKept, bytes)
 }
 
 fn keep(
+    rt: &HostRuntime,
     path: &[u8],
-    fd: i32,
+    file: &File,
     key: HandKey,
     entries: &[u32],
     room: &mut [u8],
@@ -89,16 +93,17 @@ fn keep(
         edition: EDITION,
     };
     match hand::write_hand(title, entries, room) {
-        HandWritten::Denied(why) => print_denied(key, why, bytes),
-        HandWritten::NoRoom(_) => print_denied(key, JournalError::NotKept, bytes),
-        HandWritten::Blocks(n) => keep_blocks(path, fd, key, room, n, bytes),
+        HandWritten::Denied(why) => print_denied(rt, key, why, bytes),
+        HandWritten::NoRoom(_) => print_denied(rt, key, JournalError::NotKept, bytes),
+        HandWritten::Blocks(n) => keep_blocks(rt, path, file, key, room, n, bytes),
     }
 }
 
 // A hand that is whole on the tape: its first entries.
 fn keep_whole(
+    rt: &HostRuntime,
     path: &[u8],
-    fd: i32,
+    file: &File,
     key: HandKey,
     tape: &[u32],
     entries: usize,
@@ -108,14 +113,21 @@ fn keep_whole(
 ) -> Kept {
     if is_whole {
         if entries <= tape.len() {
-            return keep(path, fd, key, &tape[0..entries], room, bytes);
+            return keep(rt, path, file, key, &tape[0..entries], room, bytes);
         }
     }
-    print_denied(key, JournalError::NotKept, bytes)
+    print_denied(rt, key, JournalError::NotKept, bytes)
 }
 
 // Each hand of the script. A script has fewer hands than bytes.
-fn record_hands(path: &[u8], fd: i32, stood: usize, script: &[u8], room: &mut [u8]) -> u8 {
+fn record_hands(
+    rt: &HostRuntime,
+    path: &[u8],
+    file: &File,
+    stood: usize,
+    script: &[u8],
+    room: &mut [u8],
+) -> u8 {
     let mut tape = [0u32; ENTRIES];
     let mut bytes = stood;
     let mut at: usize = 0;
@@ -127,8 +139,9 @@ fn record_hands(path: &[u8], fd: i32, stood: usize, script: &[u8], room: &mut [u
             break;
         }
         let kept = keep_whole(
+            rt,
             path,
-            fd,
+            file,
             taken.key,
             &tape,
             taken.entries,
@@ -148,33 +161,39 @@ fn record_hands(path: &[u8], fd: i32, stood: usize, script: &[u8], room: &mut [u
 }
 
 // A missing file is made once there is a script.
-fn record_script(path: &[u8], file: Standing, script: &[u8], room: &mut [u8]) -> u8 {
-    match standing::there(path, file) {
-        Standing::Open { fd, bytes } => record_hands(path, fd, bytes, script, room),
-        Standing::Missing => telling::not_opened(path),
+fn record_script(
+    rt: &HostRuntime,
+    path: &[u8],
+    file: Standing,
+    script: &[u8],
+    room: &mut [u8],
+) -> u8 {
+    match standing::there(rt, path, file) {
+        Standing::Open { file, bytes } => record_hands(rt, path, &file, bytes, script, room),
+        Standing::Missing => telling::not_opened(rt, path, Error::from_raw_os_error(ENOENT)),
         Standing::Ended(status) => status,
     }
 }
 
-fn read_script(path: &[u8], file: Standing, room: &mut [u8]) -> u8 {
+fn read_script(rt: &HostRuntime, path: &[u8], file: Standing, room: &mut [u8]) -> u8 {
     let mut buffer = [0u8; SCRIPT];
-    let got = inputs::read_full(STDIN_FILENO, Source::Stream, &mut buffer);
+    let got = inputs::read_full(Source::Stream(rt.stdin()), &mut buffer);
     let len = got.bytes;
-    if !got.is_read {
-        return telling::script_not_read();
+    if let Some(error) = got.failed {
+        return telling::script_not_read(rt, error);
     }
     if len < SCRIPT {
-        return record_script(path, file, &buffer[0..len], room);
+        return record_script(rt, path, file, &buffer[0..len], room);
     }
-    telling::script_too_long()
+    telling::script_too_long(rt)
 }
 
 // The file is judged before the script is read.
-pub fn record(path: &[u8]) -> u8 {
+pub fn record(rt: &HostRuntime, path: &[u8]) -> u8 {
     let mut room = cards::NO_BYTES;
-    let file = standing::look(path, &mut room);
+    let file = standing::look(rt, path, &mut room);
     match file {
         Standing::Ended(status) => status,
-        _ => read_script(path, file, &mut room),
+        other => read_script(rt, path, other, &mut room),
     }
 }

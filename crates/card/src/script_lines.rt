@@ -3,7 +3,7 @@ use crate::telling::{say, say_number};
 use crate::texts;
 use journal::hand;
 use keys::HandKey;
-use libc::STDOUT_FILENO;
+use std::io::{Error, Result};
 
 // From here on the text is written: an entry takes at most six places of its 4,096.
 const FULL: usize = 4000;
@@ -12,7 +12,7 @@ const FULL: usize = 4000;
 #[derive(Clone, Copy)]
 enum Left {
     At(usize),
-    NotWritten,
+    NotWritten(Error),
 }
 
 // A letter begins a line, but for the first; a number follows a space.
@@ -28,43 +28,43 @@ fn put_entry(out: &mut [u8], at: usize, i: usize, entry: u32) -> usize {
     texts::put(out, at, &[b'\n', letter])
 }
 
-fn write_full(text: &[u8], at: usize) -> Left {
+fn write_full(rt: &HostRuntime, text: &[u8], at: usize) -> Left {
     if at < FULL {
         return Left::At(at);
     }
-    if texts::write(STDOUT_FILENO, text, at) {
-        return Left::At(0);
+    match texts::write(rt, text, at) {
+        Ok(()) => Left::At(0),
+        Err(error) => Left::NotWritten(error),
     }
-    Left::NotWritten
 }
 
 // All entries, so that a table's line is whole however many stacks it has.
-pub fn print_entries(bytes: &[u8], entries: usize) -> bool {
-    let mut text = io::buffer();
+pub fn print_entries(rt: &HostRuntime, bytes: &[u8], entries: usize) -> Result<()> {
+    let mut text = [0u8; 4096];
     let mut at: usize = 0;
     for i in 0..entries {
         let next = put_entry(&mut text, at, i, hand::hand_entry(bytes, i));
-        match write_full(&text, next) {
+        match write_full(rt, &text, next) {
             Left::At(n) => at = n,
-            Left::NotWritten => return false,
+            Left::NotWritten(error) => return Err(error),
         }
     }
     let end = texts::put(&mut text, at, &[b'\n']);
-    texts::write(STDOUT_FILENO, &text, end)
+    texts::write(rt, &text, end)
 }
 
 // The number of a script's line ends at 65,535.
-pub fn print_key(key: HandKey) -> bool {
+pub fn print_key(rt: &HostRuntime, key: HandKey) -> Result<()> {
     if 65535 < key.hand {
-        say(b"journal: hand ");
-        say_number(key.hand as u64);
-        say(b" fits no k line: the line is left out\n");
-        return true;
+        say(rt, b"journal: hand ");
+        say_number(rt, key.hand as u64);
+        say(rt, b" fits no k line: the line is left out\n");
+        return Ok(());
     }
     let mut text = [0u8; 80];
     let start = texts::put(&mut text, 0, b"k ");
     let code = texts::put_word(&mut text, start, key.code as u64, b' ');
     let year = texts::put_word(&mut text, code, key.year as u64, b' ');
     let end = texts::put_word(&mut text, year, key.hand as u64, b'\n');
-    texts::write(STDOUT_FILENO, &text, end)
+    texts::write(rt, &text, end)
 }

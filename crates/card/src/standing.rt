@@ -1,49 +1,57 @@
 // The file that is appended to, as it stands.
 use crate::cards::{Card, Opened};
 use crate::checking::Checked;
-use crate::{cards, checking, telling};
+use crate::files::ENOENT;
+use crate::{cards, checking, files, telling};
+use std::fs::File;
+use std::io::{Error, Result};
 
 // Open for appending behind so many bytes that were checked; missing; or of no use, which is told.
-#[derive(Clone, Copy)]
+#[derive(Drop)]
 pub enum Standing {
-    Open { fd: i32, bytes: usize },
+    Open { file: File, bytes: usize },
     Missing,
     Ended(u8),
 }
 
-fn open_to_append(path: &[u8], bytes: usize) -> Standing {
-    let fd = os::open_append(path);
-    if fd < 0 {
-        return Standing::Ended(telling::not_opened(path));
+// A file that took the number of a standard stream is closed before that is told: what is said would be written to it.
+fn stands_open(rt: &HostRuntime, file: File, bytes: usize) -> Standing {
+    if cards::is_stream(&file) {
+        drop(file);
+        return Standing::Ended(telling::stream_closed(rt));
     }
-    if cards::is_stream(fd) {
-        return Standing::Ended(telling::stream_closed());
+    Standing::Open { file, bytes }
+}
+
+fn open_to_append(rt: &HostRuntime, path: &[u8], bytes: usize) -> Standing {
+    match files::open_append(rt, path) {
+        Ok(file) => stands_open(rt, file, bytes),
+        Err(error) => Standing::Ended(telling::not_opened(rt, path, error)),
     }
-    Standing::Open { fd, bytes }
 }
 
 // Behind a block that does not read no later hand would be found.
-fn check(path: &[u8], card: Card, room: &mut [u8]) -> Standing {
-    match checking::check(card, room) {
-        Checked::Good => open_to_append(path, cards::start_of(card.blocks)),
-        Checked::Bad(block) => Standing::Ended(telling::not_appended(path, block)),
-        Checked::NotRead => Standing::Ended(telling::not_read(path)),
+fn check(rt: &HostRuntime, path: &[u8], card: &Card, room: &mut [u8]) -> Standing {
+    match checking::check(rt, card, room) {
+        Checked::Good => open_to_append(rt, path, cards::start_of(card.blocks)),
+        Checked::Bad(block) => Standing::Ended(telling::not_appended(rt, path, block)),
+        Checked::NotRead(error) => Standing::Ended(telling::not_read(rt, path, error)),
     }
 }
 
-fn not_opened(path: &[u8]) -> Standing {
-    if os::errno() == libc::ENOENT {
+fn not_opened(rt: &HostRuntime, path: &[u8], error: Error) -> Standing {
+    if files::is_error(error, ENOENT) {
         return Standing::Missing;
     }
-    Standing::Ended(telling::not_opened(path))
+    Standing::Ended(telling::not_opened(rt, path, error))
 }
 
-pub fn look(path: &[u8], room: &mut [u8]) -> Standing {
-    match cards::open_card(path) {
-        Opened::Card(card) => check(path, card, room),
-        Opened::NotOpened => not_opened(path),
-        Opened::NotRead => Standing::Ended(telling::not_read(path)),
-        Opened::StreamClosed => Standing::Ended(telling::stream_closed()),
+pub fn look(rt: &HostRuntime, path: &[u8], room: &mut [u8]) -> Standing {
+    match cards::open_card(rt, path) {
+        Opened::Card(card) => check(rt, path, &card, room),
+        Opened::NotOpened(error) => not_opened(rt, path, error),
+        Opened::NotRead(error) => Standing::Ended(telling::not_read(rt, path, error)),
+        Opened::StreamClosed => Standing::Ended(telling::stream_closed(rt)),
     }
 }
 
@@ -58,43 +66,43 @@ fn folder_len(path: &[u8]) -> usize {
     len
 }
 
-fn open_folder(path: &[u8]) -> i32 {
+fn open_folder(rt: &HostRuntime, path: &[u8]) -> Result<File> {
     let len = folder_len(path);
     if 0 < len {
         if len <= path.len() {
-            return os::open_read(&path[0..len]);
+            return files::open_read(rt, &path[0..len]);
         }
     }
-    os::open_read(b".")
+    files::open_read(rt, b".")
 }
 
 // The name of a new file is lost with the power unless its folder is synced. Not every folder can be.
-fn sync_folder(path: &[u8]) {
-    let fd = open_folder(path);
-    if fd < 0 {
-        telling::folder_not_synced(path);
-        return;
+fn sync_folder(rt: &HostRuntime, path: &[u8]) {
+    match open_folder(rt, path) {
+        Ok(folder) => {
+            if let Err(error) = folder.sync_all() {
+                telling::folder_not_synced(rt, path, error);
+            }
+        }
+        Err(error) => telling::folder_not_synced(rt, path, error),
     }
-    if libc::fsync(fd) != 0 {
-        telling::folder_not_synced(path);
-    }
-    libc::close(fd);
 }
 
-fn make(path: &[u8]) -> Standing {
-    let fd = os::create(path);
-    if fd < 0 {
-        return Standing::Ended(telling::not_made(path));
+fn make(rt: &HostRuntime, path: &[u8]) -> Standing {
+    match files::create(rt, path) {
+        Ok(file) => {
+            drop(file);
+            sync_folder(rt, path);
+            open_to_append(rt, path, 0)
+        }
+        Err(error) => Standing::Ended(telling::not_made(rt, path, error)),
     }
-    libc::close(fd);
-    sync_folder(path);
-    open_to_append(path, 0)
 }
 
 // A file that is missing is made.
-pub fn there(path: &[u8], file: Standing) -> Standing {
+pub fn there(rt: &HostRuntime, path: &[u8], file: Standing) -> Standing {
     match file {
-        Standing::Missing => make(path),
-        _ => file,
+        Standing::Missing => make(rt, path),
+        other => other,
     }
 }

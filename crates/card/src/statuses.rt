@@ -1,4 +1,8 @@
-// How the program ended. A Rattle program has no exit status: it writes this digit to a descriptor, and the wrapper exits with it.
+// How the program ended: this digit is written to a descriptor, and the wrapper exits with it.
+use crate::inputs::Source;
+use crate::{files, inputs, texts};
+use std::fs::File;
+use std::io::{Result, Write};
 
 pub const DONE: u8 = 0;
 
@@ -12,6 +16,58 @@ pub const NOT_THERE: u8 = 3;
 // reading or writing failed
 pub const FAILED: u8 = 4;
 
-pub fn tell(fd: i32, status: u8) {
-    io::print_decimal(fd, status as u64);
+// The most bytes of the names here, and of what is read of a descriptor.
+const MOST: usize = 256;
+
+// What the system keeps of a descriptor of this program: the file behind it, or its state.
+fn put_name(out: &mut [u8; MOST], folder: &[u8], fd: u64) -> usize {
+    let at = texts::put(out, 0, folder);
+    commons::smaller(texts::put_number(out, at, fd), MOST)
+}
+
+// The last digit of the flags, which says how a descriptor is open: 1 for writing, 2 for both.
+fn is_for_writing(state: &[u8]) -> bool {
+    let mut last = b'0';
+    let mut is_flags = false;
+    for i in 0..state.len() {
+        if commons::comparing::stands_at(state, i, b"flags:") {
+            is_flags = true;
+        }
+        if is_flags & (state[i] == b'\n') {
+            return last % 4 != 0;
+        }
+        last = state[i];
+    }
+    false
+}
+
+pub fn is_open_to_write(rt: &HostRuntime, fd: u64) -> bool {
+    let mut name = [0u8; MOST];
+    let len = put_name(&mut name, b"/proc/self/fdinfo/", fd);
+    match files::open_read(rt, &name[..len]) {
+        Ok(file) => {
+            let mut state = [0u8; MOST];
+            let got = inputs::read_full(Source::From(&file, 0), &mut state);
+            is_for_writing(&state[..got.bytes])
+        }
+        Err(_) => false,
+    }
+}
+
+// A pipe is opened for reading too, where it may be: then that does not wait for somebody who reads.
+fn open_descriptor(rt: &HostRuntime, fd: u64) -> Result<File> {
+    let mut name = [0u8; MOST];
+    let len = put_name(&mut name, b"/proc/self/fd/", fd);
+    match files::open_both(rt, &name[..len]) {
+        Ok(file) => Ok(file),
+        Err(_) => files::open_append(rt, &name[..len]),
+    }
+}
+
+pub fn tell(rt: &HostRuntime, fd: u64, status: u8) {
+    if let Ok(mut file) = open_descriptor(rt, fd) {
+        let mut text = [0u8; MOST];
+        let n = commons::smaller(texts::put_number(&mut text, 0, status as u64), MOST);
+        let _ = file.write_all(&text[..n]);
+    }
 }

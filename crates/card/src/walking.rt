@@ -4,6 +4,7 @@ use crate::hands::Found;
 use crate::{cards, hands, numbers};
 use journal::hand::HandHead;
 use keys::HandKey;
+use std::io::Error;
 
 // The first block that the room holds, how many it holds, and the block where the next hand begins.
 #[derive(Clone, Copy)]
@@ -33,7 +34,7 @@ pub enum Next {
     Hand(Hand),
     End,
     Bad(usize),
-    NotRead,
+    NotRead(Error),
 }
 
 #[derive(Clone, Copy)]
@@ -75,31 +76,29 @@ fn passed(p: Place, head: HandHead) -> Step {
 }
 
 // The room holds blocks from the next hand on. Where its end is not among them, the file ends before it, or cannot be read so far.
-fn step_first(p: Place, is_read: bool, room: &[u8]) -> Step {
+fn step_first(p: Place, failed: Option<Error>, room: &[u8]) -> Step {
     match held_hand(p, room) {
         Found::Hand(head) => passed(p, head),
         Found::Bad(i) => ended(p, Next::Bad(numbers::plus(p.at, i))),
-        Found::Open => {
-            if is_read {
-                return ended(p, Next::Bad(numbers::plus(p.at, p.held)));
-            }
-            ended(p, Next::NotRead)
-        }
+        Found::Open => match failed {
+            None => ended(p, Next::Bad(numbers::plus(p.at, p.held))),
+            Some(error) => ended(p, Next::NotRead(error)),
+        },
     }
 }
 
 // The room is filled from the next hand on.
-fn step_afresh(card: Card, p: Place, room: &mut [u8]) -> Step {
+fn step_afresh(card: &Card, p: Place, room: &mut [u8]) -> Step {
     let filled = cards::read_blocks(card, p.at, room);
     let place = Place {
         from: p.at,
         held: filled.blocks,
         at: p.at,
     };
-    step_first(place, filled.is_read, room)
+    step_first(place, filled.failed, room)
 }
 
-pub fn next_hand(card: Card, p: Place, room: &mut [u8]) -> Step {
+pub fn next_hand(card: &Card, p: Place, room: &mut [u8]) -> Step {
     if card.blocks <= p.at {
         if card.has_tail {
             return ended(p, Next::Bad(card.blocks));
@@ -114,7 +113,7 @@ pub fn next_hand(card: Card, p: Place, room: &mut [u8]) -> Step {
 }
 
 // A hand takes a block or more, so that so many steps come to the end.
-pub fn turns(card: Card) -> usize {
+pub fn turns(card: &Card) -> usize {
     numbers::plus(card.blocks, 1)
 }
 
@@ -123,7 +122,7 @@ pub fn is_hand(next: Next) -> bool {
         Next::Hand(_) => true,
         Next::End => false,
         Next::Bad(_) => false,
-        Next::NotRead => false,
+        Next::NotRead(_) => false,
     }
 }
 

@@ -2,37 +2,55 @@
 // no byte matters, so no more are read.
 #![tactic(auto)]
 
-ghost use Rattle.std.specs.Prelude.{◌≡◌};
+ghost use Rattle.std.specs.Prelude.{◌≡◌, ◌≤◌, length};
 ghost use Rattle.console.specs.Parts.{script_part, played_of};
 
 use console::play;
 use console::play::{Console, Played};
-use libc::{STDIN_FILENO, STDOUT_FILENO};
+use std::io::Read;
 
-// A part of the script: as many lines as 4,096 bytes are sure to hold.
-fn play_part(script: &[u8], at: usize, c: Console) -> Played
+// Reads until the room is full, the input ends or a read fails, and answers how many bytes stand at its start.
+fn read_full(input: &mut impl Read, room: &mut [u8]) -> usize
+    ensures { result ≤ length room.new }
+{
+    let mut bytes: usize = 0;
+    for _ in 0..room.len() {
+        if room.len() <= bytes {
+            break;
+        }
+        match input.read(&mut room[bytes..]) {
+            Ok(0) => break,
+            Ok(n) => bytes += n,
+            Err(_) => break,
+        }
+    }
+    bytes
+}
+
+// A part of the script: as many lines as 4,096 bytes are sure to hold. What cannot be written is left out.
+fn play_part(rt: &impl Print, script: &[u8], at: usize, c: Console) -> Played
     ensures { result ≡ played_of (script_part script.now at c 4096) }
 {
-    let mut out = io::buffer();
+    let mut out = [0u8; 4096];
     let p = play::play_script(script, at, c, &mut out);
     let n = p.len;
-    io::write_all(STDOUT_FILENO, &out[..n]);
+    let _ = rt.write_all(&out[..n]);
     p
 }
 
-fn play_all(script: &[u8]) {
+fn play_all(rt: &impl Print, script: &[u8]) {
     let mut at: usize = 0;
     let mut c = play::start();
     while at < script.len() {
-        let p = play_part(script, at, c);
+        let p = play_part(rt, script, at, c);
         at = p.at;
         let next = p.console;
         c = next;
     }
 }
 
-fn main() {
+fn main(rt: HostRuntime) {
     let mut buffer = [0u8; 65537];
-    let n = io::read_full(STDIN_FILENO, &mut buffer);
-    play_all(&buffer[..n]);
+    let n = read_full(&mut rt.stdin(), &mut buffer);
+    play_all(&rt, &buffer[..n]);
 }

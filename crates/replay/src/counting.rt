@@ -32,36 +32,36 @@ pub fn count(line: &[u8], answer: u8, counts: &mut Counts) {
 }
 
 // The letter before its first count, a comma before each other.
-fn print_before(letter: usize, is_begun: bool) {
+fn print_before(rt: &HostRuntime, letter: usize, is_begun: bool) {
     if is_begun {
-        print(b", ");
+        print(rt, b", ");
     } else {
         let byte = (letter % 128) as u8;
-        print(&[b' ', b' ', byte, b' ']);
+        print(rt, &[b' ', b' ', byte, b' ']);
     }
 }
 
-fn print_answer(answer: usize) {
+fn print_answer(rt: &HostRuntime, answer: usize) {
     if answer == 0 {
-        print(b" answered");
+        print(rt, b" answered");
         return;
     }
     if answer == wide(LOADED) {
-        print(b" loaded");
+        print(rt, b" loaded");
         return;
     }
-    print(b" refused by ");
-    print_number((answer % 64) as u32);
+    print(rt, b" refused by ");
+    print_number(rt, (answer % 64) as u32);
 }
 
 // Prints a count that is not 0, and answers whether its letter's line is begun.
-fn print_count(counts: &Counts, i: usize, is_begun: bool) -> bool {
+fn print_count(rt: &HostRuntime, counts: &Counts, i: usize, is_begun: bool) -> bool {
     if i < CELLS {
         let n = counts[i];
         if 0 < n {
-            print_before(i / 64, is_begun);
-            print_number(n);
-            print_answer(i % 64);
+            print_before(rt, i / 64, is_begun);
+            print_number(rt, n);
+            print_answer(rt, i % 64);
             return true;
         }
     }
@@ -69,20 +69,20 @@ fn print_count(counts: &Counts, i: usize, is_begun: bool) -> bool {
 }
 
 // Ends a letter's line after the last of its answers.
-fn print_after(i: usize, is_begun: bool) -> bool {
+fn print_after(rt: &HostRuntime, i: usize, is_begun: bool) -> bool {
     if i % 64 < 63 {
         return is_begun;
     }
     if is_begun {
-        print(b"\n");
+        print(rt, b"\n");
     }
     false
 }
 
 // A line for each letter that occurs.
-pub fn print_counts(counts: &Counts) {
+pub fn print_counts(rt: &HostRuntime, counts: &Counts) {
     let mut is_begun = false;
     for i in 0..CELLS {
-        is_begun = print_after(i, print_count(counts, i, is_begun));
+        is_begun = print_after(rt, i, print_count(rt, counts, i, is_begun));
     }
 }

@@ -12,14 +12,14 @@ pub struct Tally {
     pub different: u32,
 }
 
-fn differs(name: &[u8], line: &[u8], s: Tally) -> Tally {
+fn differs(rt: &HostRuntime, name: &[u8], line: &[u8], s: Tally) -> Tally {
     if s.different == 0 {
-        print(name);
-        print(b" differs at line ");
-        print_number(counting::up(s.lines));
-        print(b": ");
-        print(line);
-        print(b"\n");
+        print(rt, name);
+        print(rt, b" differs at line ");
+        print_number(rt, counting::up(s.lines));
+        print(rt, b": ");
+        print(rt, line);
+        print(rt, b"\n");
     }
     Tally {
         lines: counting::up(s.lines),
@@ -27,7 +27,14 @@ fn differs(name: &[u8], line: &[u8], s: Tally) -> Tally {
     }
 }
 
-fn judge(name: &[u8], line: &[u8], told: Told, counts: &mut Counts, s: Tally) -> Tally {
+fn judge(
+    rt: &HostRuntime,
+    name: &[u8],
+    line: &[u8],
+    told: Told,
+    counts: &mut Counts,
+    s: Tally,
+) -> Tally {
     if told.next == reading::end_of(line) {
         counting::count(line, told.answer, counts);
         return Tally {
@@ -35,11 +42,12 @@ fn judge(name: &[u8], line: &[u8], told: Told, counts: &mut Counts, s: Tally) ->
             different: s.different,
         };
     }
-    differs(name, line, s)
+    differs(rt, name, line, s)
 }
 
 // What our functions tell of the line that was read, if one is whole.
 pub fn take(
+    rt: &HostRuntime,
     name: &[u8],
     line: &Line,
     l: Lines,
@@ -51,18 +59,18 @@ pub fn take(
     let all = &line[..];
     if l.is_whole {
         if len <= all.len() {
-            return judge(name, &all[0..len], told, counts, s);
+            return judge(rt, name, &all[0..len], told, counts, s);
         }
     }
     s
 }
 
-pub fn print_all(name: &[u8], counts: &Counts, s: Tally) {
-    print(name);
-    print(b" ");
-    print_number(s.lines);
-    print(b" lines, ");
-    print_number(s.different);
-    print(b" different\n");
-    counting::print_counts(counts);
+pub fn print_all(rt: &HostRuntime, name: &[u8], counts: &Counts, s: Tally) {
+    print(rt, name);
+    print(rt, b" ");
+    print_number(rt, s.lines);
+    print(rt, b" lines, ");
+    print_number(rt, s.different);
+    print(rt, b" different\n");
+    counting::print_counts(rt, counts);
 }

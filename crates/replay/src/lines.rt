@@ -2,6 +2,8 @@
 // knows: it differs.
 use crate::printing::print;
 use crate::reading;
+use std::fs::File;
+use std::io::{Read, Result};
 
 // The most bytes of a line.
 pub const LONGEST: usize = 4096;
@@ -82,17 +84,33 @@ fn go_on(piece: &Piece, line: &mut Line, l: Lines) -> Lines {
     next
 }
 
-// The next piece. Where there is none, the list is at its end.
-fn fill(fd: i32, piece: &mut Piece, line: &mut Line, l: Lines) -> Lines {
-    let got = libc::read(fd, piece);
-    let mut next = l;
-    if 0 < got {
-        next.got = io::count(got, piece);
-        next.at = 0;
-        return next;
+// From a file that was not opened nothing is read.
+fn read(file: &mut Result<File>, piece: &mut Piece) -> Result<usize> {
+    match file {
+        Ok(open) => open.read(piece),
+        Err(error) => Err(*error),
     }
-    if got < 0 {
-        print(b"what follows cannot be read\n");
+}
+
+// The next piece. Where there is none, the list is at its end.
+fn fill(
+    rt: &HostRuntime,
+    file: &mut Result<File>,
+    piece: &mut Piece,
+    line: &mut Line,
+    l: Lines,
+) -> Lines {
+    let got = read(file, piece);
+    let mut next = l;
+    if let Ok(n) = got {
+        if 0 < n {
+            next.got = n;
+            next.at = 0;
+            return next;
+        }
+    }
+    if got.is_err() {
+        print(rt, b"what follows cannot be read\n");
     }
     if 0 < l.len {
         next.len = put_unknown(line);
@@ -103,10 +121,16 @@ fn fill(fd: i32, piece: &mut Piece, line: &mut Line, l: Lines) -> Lines {
 }
 
 // A piece is read, or a line goes on in it.
-pub fn turn(fd: i32, piece: &mut Piece, line: &mut Line, l: Lines) -> Lines {
+pub fn turn(
+    rt: &HostRuntime,
+    file: &mut Result<File>,
+    piece: &mut Piece,
+    line: &mut Line,
+    l: Lines,
+) -> Lines {
     let next = l.begun();
     if l.at < l.got {
         return go_on(piece, line, next);
     }
-    fill(fd, piece, line, next)
+    fill(rt, file, piece, line, next)
 }

@@ -12,6 +12,7 @@ use crate::{
     judging, lines, playing, reading, round_lines, script_lines, seat_lines, settle_lines,
     step_lines, words,
 };
+use std::fs::File;
 
 #[derive(Clone, Copy)]
 pub enum List {
@@ -69,9 +70,9 @@ fn take(
     agreeing::no_match()
 }
 
-pub fn replay(name: &[u8], list: List) {
-    let fd = os::open_read(name);
-    let mut piece = io::large_buffer();
+pub fn replay(rt: &HostRuntime, name: &str, list: List) {
+    let mut file = File::open(rt, name);
+    let mut piece = [0u8; 65536];
     let mut line = lines::NO_LINE;
     let mut table = words::ZEROS;
     let mut script = decoding::NO_SCRIPT;
@@ -85,7 +86,7 @@ pub fn replay(name: &[u8], list: List) {
         different: 0,
     };
     for _ in 0..lines::TURNS {
-        l = lines::turn(fd, &mut piece, &mut line, l);
+        l = lines::turn(rt, &mut file, &mut piece, &mut line, l);
         let told = take(
             list,
             &line,
@@ -96,11 +97,11 @@ pub fn replay(name: &[u8], list: List) {
             &mut tape,
             &mut case,
         );
-        s = judging::take(name, &line, l, told, &mut counts, s);
+        s = judging::take(rt, name.as_bytes(), &line, l, told, &mut counts, s);
         if l.is_ended {
             break;
         }
     }
-    libc::close(fd);
-    judging::print_all(name, &counts, s);
+    drop(file);
+    judging::print_all(rt, name.as_bytes(), &counts, s);
 }

@@ -34,13 +34,13 @@ mod words;
 
 use lists::List;
 
-fn main() {
-    lists::replay(b"seats", List::Seats);
-    lists::replay(b"floats", List::Floats);
-    lists::replay(b"rounds", List::Rounds);
-    lists::replay(b"builds", List::Builds);
-    lists::replay(b"steps", List::Steps);
-    lists::replay(b"settlements", List::Settlements);
-    lists::replay(b"scripts", List::Scripts);
-    lists::replay(b"journals", List::Journals);
+fn main(rt: HostRuntime) {
+    lists::replay(&rt, "seats", List::Seats);
+    lists::replay(&rt, "floats", List::Floats);
+    lists::replay(&rt, "rounds", List::Rounds);
+    lists::replay(&rt, "builds", List::Builds);
+    lists::replay(&rt, "steps", List::Steps);
+    lists::replay(&rt, "settlements", List::Settlements);
+    lists::replay(&rt, "scripts", List::Scripts);
+    lists::replay(&rt, "journals", List::Journals);
 }

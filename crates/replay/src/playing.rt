@@ -32,7 +32,7 @@ pub fn play(script: &[u8], printed: &mut Printed) -> usize {
     let mut end: usize = 0;
     let mut c = play::start();
     for _ in 0..most_parts(script.len()) {
-        let mut out = io::buffer();
+        let mut out = [0u8; 4096];
         let p = play::play_script(script, at, c, &mut out);
         keep(printed, end, &out, p.len);
         end = further(end, p.len);

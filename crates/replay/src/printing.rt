@@ -1,10 +1,9 @@
-// What is written to standard output.
-use libc::STDOUT_FILENO;
+// What is written to standard output. What cannot be written is left out.
 
-pub fn print(text: &[u8]) {
-    io::write_all(STDOUT_FILENO, text);
+pub fn print(rt: &HostRuntime, text: &[u8]) {
+    let _ = rt.write_all(text);
 }
 
-pub fn print_number(n: u32) {
-    io::print_decimal(STDOUT_FILENO, n as u64);
+pub fn print_number(rt: &HostRuntime, n: u32) {
+    let _ = rt.print(n);
 }
