@@ -1,4 +1,6 @@
 // How the program ended: this digit is written to a descriptor, and the wrapper exits with it.
+ghost use Rattle.std.specs.Prelude.{◌≤◌};
+
 use crate::inputs::Source;
 use crate::{files, inputs, texts};
 use std::fs::File;
@@ -20,7 +22,9 @@ pub const FAILED: u8 = 4;
 const MOST: usize = 256;
 
 // What the system keeps of a descriptor of this program: the file behind it, or its state.
-fn put_name(out: &mut [u8; MOST], folder: &[u8], fd: u64) -> usize {
+fn put_name(out: &mut [u8; MOST], folder: &[u8], fd: u64) -> usize
+    ensures { result ≤ 256 }
+{
     let at = texts::put(out, 0, folder);
     commons::smaller(texts::put_number(out, at, fd), MOST)
 }
@@ -48,7 +52,7 @@ pub fn is_open_to_write(rt: &HostRuntime, fd: u64) -> bool {
         Ok(file) => {
             let mut state = [0u8; MOST];
             let got = inputs::read_full(Source::From(&file, 0), &mut state);
-            is_for_writing(&state[..got.bytes])
+            is_for_writing(&state[..commons::smaller(got.bytes, MOST)])
         }
         Err(_) => false,
     }
