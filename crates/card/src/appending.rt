@@ -32,14 +32,7 @@ fn reason_of(cut: Result<()>, before: Error) -> Error {
 }
 
 // Cuts off the bytes that were put behind those that stood. A device has no length to be set, so that the size decides whether all is as before.
-fn cut_back(
-    rt: &HostRuntime,
-    path: &[u8],
-    file: &File,
-    stood: usize,
-    put: usize,
-    before: Error,
-) {
+fn cut_back(rt: &HostRuntime, path: &[u8], file: &File, stood: usize, put: usize, before: Error) {
     if numbers::plus(stood, put) < cards::size_of(file) {
         not_cut_back(rt, path);
         return;
