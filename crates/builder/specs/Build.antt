@@ -1,5 +1,5 @@
 -- Section 5, the builder: the refusals in their order, and the record that is built. Definitions only.
-use Rattle.std.specs.Prelude.{ℕ, min, Bool, true, false, cond, not, ◌&&◌, ◌||◌, List, [], ◌∷◌, ◌++◌, eqb, leb, ltb, pos, get_or, Float}
+use Rattle.std.specs.Prelude.{ℕ, min, Bool, false, cond, not, ◌&&◌, ◌||◌, List, [], ◌∷◌, ◌++◌, eqb, leb, ltb, pos, get_or, Float}
 use Rattle.std.specs.Float.{nan, fin, binary32}
 use Rattle.std.specs.Float.Ieee.{div, lt, le, is_nan}
 use Rattle.floats.specs.Helpers.{zerof}

@@ -1,6 +1,6 @@
 -- Small cases at the edges, closed by computing: which amounts are whole, the bet on both sides of each of its lines, and where the rule with e = 0 first fails,
 -- past 8,000: the bet itself, on floats. Assumes nothing.
-use Rattle.std.proofs.Common.{◌≡◌, ℕ, Bool, true, false, not, ◌&&◌, eqb, List, [], ◌∷◌, pos, negsuc, refl}
+use Rattle.std.proofs.Common.{◌≡◌, ℕ, Bool, true, false, not, eqb, List, [], ◌∷◌, pos, negsuc, refl}
 use lib.Ieee.{Float, nan, inf, fin, binary32, of_int, round, units, odd, size, span, climb, add, sub, sum, neg, mul, lt, le, eq, is_nan}
 use Rattle.commons.specs.Tests.{all_of}
 use Rattle.refusals.specs.Number.{number_of}

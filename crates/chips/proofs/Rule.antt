@@ -1,6 +1,6 @@
 -- What a payment that the rule accepts is: no more than the stack, and short of the bet or of the smallest raise only where it is the whole stack.
 -- Assumes nothing.
-use Rattle.std.proofs.Common.{◌≡◌, ℕ, ◌+◌, ◌-◌, ◌≤◌, Bool, true, false, cond, not, ◌&&◌, eqb, ltb, ◌⊎◌, refl, subst, inl, inr, ⊎_elim, arith, ltb-false, eqb-true}
+use Rattle.std.proofs.Common.{◌≡◌, ℕ, ◌+◌, ◌-◌, ◌≤◌, Bool, true, false, not, ◌&&◌, eqb, ltb, ◌⊎◌, refl, subst, inl, inr, ⊎_elim, arith, ltb-false, eqb-true}
 use borrow.Author.Tests.{not-false}
 use Rattle.refusals.specs.declared.Verdict.{Verdict}
 use Rattle.refusals.specs.declared.Verdict.TheVariants.{Stands, Refused}

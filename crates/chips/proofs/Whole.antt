@@ -1,6 +1,6 @@
 -- The test `is_whole` and the number of chips, against `Is`: a whole amount is the number that `chips_in` gives, and an amount that is a number up to 8,000 is whole.
 -- And what the code's cast asks and gives between 0 and 8,000. Assumes nothing.
-use Rattle.std.proofs.Common.{◌≡◌, ℕ, ◌+◌, ◌*◌, ◌/◌, ◌%◌, ◌^◌, ◌<◌, ◌≤◌, true, false, T, eqb, [], ◌∷◌, pos, sym, refl, ◌∙◌, ⊎_elim, mul_comm, div-add-mod', zero-mul, mul-one, arith, eqb→eq, lt→ltb, leb→le, pow_pos, eq-eqb, eqb-true, le-leb}
+use Rattle.std.proofs.Common.{◌≡◌, ℕ, ◌+◌, ◌*◌, ◌/◌, ◌%◌, ◌^◌, ◌<◌, ◌≤◌, true, false, T, eqb, pos, sym, refl, ◌∙◌, ⊎_elim, mul_comm, div-add-mod', zero-mul, mul-one, arith, eqb→eq, lt→ltb, leb→le, pow_pos, eq-eqb, eqb-true, le-leb}
 use native.Mathlib.Nat.{mul-mod_left, eq_of_mul-eq-mul_right, div-le_of_le-mul, zero-div}
 use lib.Ieee.{Float, nan, inf, fin, binary32, up, down, lt, le, eq, of_int, to_unsigned, round}
 use lib.Ieee.Back.{round_whole}

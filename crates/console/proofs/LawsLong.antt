@@ -1,6 +1,6 @@
 -- Laws of a script that is too long: a part is its one line or nothing, and a line laid at the front of a buffer is a part.
 -- Assumes nothing.
-use Rattle.std.proofs.Common.{◌≡◌, ℕ, ◌+◌, ◌<◌, ◌≤◌, Bool, true, false, ◌||◌, ltb, leb, List, [], length, take, drop, refl, ap, ◌∙◌, arith, take_at, ltb-false, le-leb, leb-false}
+use Rattle.std.proofs.Common.{◌≡◌, ℕ, ◌+◌, ◌<◌, ◌≤◌, true, false, ◌||◌, ltb, leb, List, [], length, take, drop, refl, ap, ◌∙◌, arith, take_at, ltb-false, le-leb, leb-false}
 use borrow.Author.Tests.{lt-leb}
 use Rattle.commons.specs.Filled.{copied}
 use Rattle.commons.proofs.Bools.{or_neither}

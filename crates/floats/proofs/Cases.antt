@@ -2,7 +2,7 @@
 -- One table, closed by computing; floats are compared by their bits. Assumes nothing.
 use Prim.Native.Nat.{ℕ}
 use mathlib.Core.Path.{◌≡◌, refl}
-use mathlib.Core.Bool.{Bool, true, false, not}
+use mathlib.Core.Bool.{Bool, true, not}
 use mathlib.Core.List.{List, [], ◌∷◌}
 use lib.Dec.{eqb}
 use lib.Ieee.{Float, nan, binary32, of_bits, of_fields, to_bits, lt, le, mul, round, units, odd, size, span, climb, is_nan}

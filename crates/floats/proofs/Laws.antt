@@ -1,11 +1,11 @@
 -- What the code tests and computes of a NaN, of the sign bit and of an amount without its sign is what the definitions say. Assumes nothing.
 use lib.IntN.{ℤ}
-use Prim.Native.Nat.{ℕ, zero, suc, ◌+◌, ◌*◌, ◌^◌, ◌/◌, ◌-◌, ◌<◌, ◌≤◌}
-use mathlib.Core.Path.{◌≡◌, refl, sym, ap, ◌∙◌, subst}
-use mathlib.Core.Bool.{Bool, true, false, not, cond, ◌&&◌, ◌||◌, beq}
+use Prim.Native.Nat.{ℕ, zero, suc, ◌*◌}
+use mathlib.Core.Path.{◌≡◌, refl, sym, ap, subst}
+use mathlib.Core.Bool.{Bool, true, false, not}
 use native.Mathlib.Omega.{arith}
-use lib.Dec.{T, eqb, leb, eqb_refl}
-use lib.Ieee.{Float, nan, inf, fin, up, down, ne, eq, neg, is_nan, fits, to_bits, top, binary32}
+use lib.Dec.{T, leb}
+use lib.Ieee.{Float, nan, inf, fin, up, down, ne, neg, is_nan, fits, to_bits, binary32}
 use lib.Ieee.Bits.{to_bits-lt}
 use borrow.Author.Tests.{le-leb, lt-leb, eq-eqb}
 use Rattle.floats.specs.Helpers.{sign_of, abs_of}

@@ -1,5 +1,5 @@
 -- Section 2, floats, over the logic's account of IEEE 754. Definitions only.
-use Rattle.std.specs.Prelude.{Bool, true, false, cond, pos, negsuc, Float}
+use Rattle.std.specs.Prelude.{Bool, false, cond, pos, negsuc, Float}
 use Rattle.std.specs.Float.{nan, inf, fin, binary32}
 use Rattle.std.specs.Float.Ieee.{lt, le, mul, is_nan}
 

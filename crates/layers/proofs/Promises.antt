@@ -5,8 +5,7 @@ use native.Mathlib.Nat.{eq-zero-or-pos}
 use native.Mathlib.Omega.{arith}
 use mathlib.Core.Path.{◌≡◌, sym, ◌∙◌}
 use mathlib.Core.Logic.{⊎_elim}
-use mathlib.Core.Bool.{Bool, true, false}
-use mathlib.Core.List.{List}
+use mathlib.Core.Bool.{true, false}
 use lib.ListN.{length, get_or-replicate, get_or-eq_default}
 use Rattle.commons.proofs.OneResult.{OneResult, same, only}
 use Rattle.seats.specs.Bits.{has}

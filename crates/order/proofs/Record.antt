@@ -1,6 +1,6 @@
 -- What is seen of the table's record in whole chips, and that the tests of good order, their last read as "if any seat owes, the seat to act does", say just this:
 -- the record is sound, its amounts are whole, and what is seen of it is in good order in numbers. Assumes nothing.
-use Prim.Native.Nat.{ℕ, ◌+◌, ◌<◌}
+use Prim.Native.Nat.{ℕ, ◌<◌}
 use native.Mathlib.Omega.{arith}
 use mathlib.Core.Path.{◌≡◌, refl}
 use mathlib.Core.Logic.{⊎_elim}

@@ -1,25 +1,25 @@
 -- A hand that is written across the boundary: in whole and block by block it is the same bytes, and they read back as what was written. Assumes nothing.
-use Prim.Native.Nat.{ℕ, ◌+◌, ◌*◌, ◌-◌, ◌≤◌, ◌<◌, ◌/◌, ◌%◌}
+use Prim.Native.Nat.{ℕ, ◌+◌, ◌*◌, ◌-◌, ◌≤◌, ◌<◌}
 use native.Mathlib.Omega.{arith}
-use mathlib.Core.Path.{◌≡◌, refl, sym, ap, ◌∙◌}
+use mathlib.Core.Path.{◌≡◌, sym, ap, ◌∙◌}
 use mathlib.Core.Bool.{Bool, true, false, cond, not}
 use mathlib.Core.List.{List, [], ◌∷◌, ◌++◌}
 use borrow.Author.Tests.{lt-ltb, le-ltb, le-leb, ne_eqb}
-use lib.Dec.{leb, ltb, eqb}
+use lib.Dec.{ltb, eqb}
 use lib.ListN.{length, set, drop, length-append, length-drop}
 use Rattle.commons.specs.Filled.{copied}
 use Rattle.journal.specs.declared.block.Title.{Title}
 use Rattle.journal.specs.declared.hand.HandWritten.TheVariants.{Blocks}
 use Rattle.journal.specs.declared.laying.BlockLaid.TheVariants.{More, Last}
 use Rattle.journal.specs.Block.{bit}
-use Rattle.journal.specs.Hand.{block_count, joined, block_at, hand_bytes, writes, room, writes_into, bytes_after, reads}
+use Rattle.journal.specs.Hand.{block_count, joined, block_at, hand_bytes, writes, room, writes_into, bytes_after}
 use Rattle.journal.specs.Lay.{block_laid, lays, lay_room, lays_into, lay_after}
 use Rattle.journal.proofs.Hands.{KeyFits, writes_kept, round_trip}
 use Rattle.journal.proofs.LawsTrip.{Kept, block-is}
 use Rattle.journal.proofs.Images.{laid-alone, laid-says, held-block, held-says}
 use Rattle.layout.specs.Words.{word_at, word_of}
-use Rattle.peatcloak.specs.Writing.{Wrote, wrote, title_fits, title_in, hand_number, hand_out, write_hand_on, block_number, block_out, write_block_on}
-use Rattle.peatcloak.specs.Reading.{Told, told, titled, hand_words, hand_read_number, hand_read_told, read_hand_on}
+use Rattle.peatcloak.specs.Writing.{wrote, title_fits, title_in, hand_number, hand_out, write_hand_on, block_number, block_out, write_block_on}
+use Rattle.peatcloak.specs.Reading.{told, titled, hand_words, hand_read_number, hand_read_told, read_hand_on}
 
 -- a hand that the room writes, under the title that a host's words tell
 module _ (ts tape : List ℕ) (word : word_at ts 2 < 4294967296) (n : ℕ) (e : writes (title_in ts) tape ≡ Blocks n) (title : title_fits ts ≡ true) where

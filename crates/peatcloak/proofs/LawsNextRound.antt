@@ -11,7 +11,7 @@ use lib.Dec.{eqb}
 use lib.ListN.{get_or, set, length}
 use lib.Ieee.{Float, nan}
 use borrow.Author.Tests.{eq-eqb, ne_eqb, ltb-true}
-use Rattle.commons.specs.Filled.{filled, laid}
+use Rattle.commons.specs.Filled.{laid}
 use Rattle.commons.proofs.Filled.{filled-long, filled_at, filled-out, laid-long, laid_out, laid-at}
 use Rattle.commons.proofs.Order.{lt_or_le}
 use Rattle.commons.proofs.Tests.{test_at}

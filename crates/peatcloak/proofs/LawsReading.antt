@@ -1,7 +1,7 @@
 -- A hand read from a host's bytes: what each call tells, by whether the lists are long enough. Assumes nothing.
 use Prim.Native.Nat.{ℕ, ◌≤◌, ◌<◌}
-use mathlib.Core.Path.{◌≡◌, refl, sym, ap, ◌∙◌}
-use mathlib.Core.Bool.{Bool, true, false, cond, ◌&&◌}
+use mathlib.Core.Path.{◌≡◌, ap, ◌∙◌}
+use mathlib.Core.Bool.{true, false, ◌&&◌}
 use mathlib.Core.List.{List, [], ◌∷◌}
 use borrow.Author.Tests.{le-leb, lt-leb}
 use lib.Dec.{leb}
@@ -14,7 +14,7 @@ use Rattle.journal.specs.Hand.{reads}
 use Rattle.journal.specs.Read.{read_of}
 use Rattle.journal.specs.Reading.{line_read}
 use Rattle.layout.specs.Words.{word_of}
-use Rattle.peatcloak.specs.Reading.{Told, told, block_read_number, block_read_told, read_block_on, hand_read_number, hand_read_told, read_hand_on, LineTold, line_told, line_words, line_at_on}
+use Rattle.peatcloak.specs.Reading.{Told, told, block_read_number, block_read_told, read_block_on, hand_read_number, hand_read_told, read_hand_on, line_told, line_words, line_at_on}
 
 -- what a call that comes to t answers and tells
 abbrev pub Tells : Told → ℕ → List ℕ → Type 0

@@ -1,10 +1,9 @@
 -- A hand written from a host's lists: what each call leaves, by whether the lists are long enough and their words in range. Assumes nothing.
 use Prim.Native.Nat.{ℕ, ◌≤◌, ◌<◌, ◌%◌}
-use Prim.Native.Char.{code}
 use native.Mathlib.Omega.{arith}
 use mathlib.Core.Path.{◌≡◌, refl, sym, ap, ◌∙◌}
 use mathlib.Core.Logic.{⊎_elim}
-use mathlib.Core.Bool.{Bool, true, false, cond, ◌&&◌}
+use mathlib.Core.Bool.{Bool, true, false, ◌&&◌}
 use mathlib.Core.List.{List}
 use borrow.Author.Tests.{lt-ltb, le-ltb, le-leb, lt-leb, ltb-true, ne_eqb}
 use lib.Dec.{leb, ltb}
@@ -19,7 +18,7 @@ use Rattle.journal.specs.Hand.{writes_into, bytes_after}
 use Rattle.journal.specs.Lay.{lays_into, lay_after}
 use Rattle.journal.specs.Lines.{count_ok}
 use Rattle.journal.specs.Tape.{line_ok, put_line, tape_after}
-use Rattle.peatcloak.specs.Writing.{Wrote, wrote, wrote_nothing, title_fits, title_in, letter_of, put_number, put_out, put_line_on, hand_number, hand_out, write_hand_on, block_number, block_out, write_block_on}
+use Rattle.peatcloak.specs.Writing.{Wrote, wrote, title_fits, title_in, letter_of, put_number, put_out, put_line_on, hand_number, hand_out, write_hand_on, block_number, block_out, write_block_on}
 
 -- what a call that comes to w answers and leaves
 abbrev pub Leaves : Wrote → ℕ → List ℕ → List ℕ → Type 0

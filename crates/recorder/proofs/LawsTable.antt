@@ -3,7 +3,7 @@
 use Prim.Native.Nat.{ℕ, ◌-◌, ◌≤◌}
 use native.Mathlib.Omega.{arith}
 use mathlib.Core.Path.{◌≡◌, refl, sym, ◌∙◌, subst}
-use mathlib.Core.Logic.{◌≢◌, ⊎_elim, ◌⊎◌}
+use mathlib.Core.Logic.{◌≢◌, ⊎_elim}
 use mathlib.Core.Bool.{Bool, true, false, cond, ◌&&◌}
 use mathlib.Core.List.{List, [], ◌∷◌}
 use lib.Dec.{eqb, leb}
@@ -11,7 +11,7 @@ use lib.ListN.{length, take}
 use Rattle.commons.proofs.Bools.{either, pick, tested}
 use Rattle.refusals.specs.declared.Verdict.{Verdict}
 use Rattle.refusals.specs.declared.Verdict.TheVariants.{Stands, Refused}
-use Rattle.refusals.specs.Rows.{judge, answer}
+use Rattle.refusals.specs.Rows.{judge}
 use Rattle.refusals.proofs.Numbers.{numbered}
 use Rattle.refusals.proofs.Rows.{answer-of}
 use Rattle.keys.specs.declared.HandKey.{HandKey}

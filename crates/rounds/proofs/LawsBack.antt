@@ -15,7 +15,7 @@ use Rattle.rounds.specs.declared.RoundData.{RoundData}
 use Rattle.rounds.specs.declared.RoundStep.{RoundStep}
 use Rattle.rounds.specs.declared.AmountAnswer.{AmountAnswer}
 use Rattle.rounds.specs.Sound.{sound_parts, sound_data}
-use Rattle.rounds.specs.Steps.{no_data, new_data, bets_data, new_of, with_bets_of, advance_of, bet_rows, bet_of, current_bet, number_of, amount_number, amount_of}
+use Rattle.rounds.specs.Steps.{no_data, new_of, with_bets_of, advance_of, bet_rows, bet_of, current_bet, number_of, amount_number, amount_of}
 
 abbrev pub Back : RoundData → RoundStep → Type 0
 Back d r = number_of r.answer ≢ 0 → r.round_data ≡ d

@@ -2,7 +2,7 @@
 use Prim.Native.Nat.{ℕ, ◌<◌, ◌≤◌, ◌^◌}
 use native.Mathlib.Omega.{arith}
 use mathlib.Core.Path.{◌≡◌}
-use mathlib.Core.Bool.{Bool, true}
+use mathlib.Core.Bool.{true}
 use borrow.Author.Tests.{leb-true, ltb-true}
 use Rattle.commons.proofs.Tests.{test_at}
 use Rattle.rounds.specs.Sound.{sound_tests, sound_parts}

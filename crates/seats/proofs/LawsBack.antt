@@ -2,7 +2,7 @@
 use Prim.Native.Nat.{ℕ}
 use mathlib.Core.Path.{◌≡◌, refl}
 use mathlib.Core.Logic.{◌≢◌}
-use mathlib.Core.Bool.{Bool, true, false}
+use mathlib.Core.Bool.{false}
 use lib.Dec.{leb, ltb}
 use Rattle.commons.proofs.Bools.{pick}
 use Rattle.seats.specs.declared.PlayerBitSet.{PlayerBitSet}

@@ -1,5 +1,5 @@
 -- Section 1, seats: what the calls on a set answer; 3 where a new set is too large, 20 where there is no such seat. Definitions only.
-use Rattle.std.specs.Prelude.{ℕ, Bool, true, false, cond, leb, ltb}
+use Rattle.std.specs.Prelude.{ℕ, Bool, false, cond, leb, ltb}
 use Rattle.refusals.specs.declared.Refusal.{Refusal}
 use Rattle.refusals.specs.declared.Refusal.TheVariants.{Build, Added}
 use Rattle.refusals.specs.declared.GameStateBuilderError.TheVariants.{InvalidPlayerCount}

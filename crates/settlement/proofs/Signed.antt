@@ -1,5 +1,5 @@
 -- A difference of two amounts of chips as a signed number of 32 bits: it fits, so casting, subtracting and keeping it lose nothing. Assumes nothing.
-use Rattle.std.proofs.Common.{◌≡◌, ℕ, zero, suc, ◌-◌, ◌^◌, ◌<◌, ◌≤◌, ℤ, pos, ◌-ℤ◌, sym, ◌∙◌, subst, ⊎_elim, arith, w32, SFits, to_z, of_z, le-ltb, lt-ltb}
+use Rattle.std.proofs.Common.{◌≡◌, ℕ, zero, suc, ◌^◌, ◌<◌, ◌≤◌, ℤ, pos, ◌-ℤ◌, sym, ◌∙◌, subst, ⊎_elim, arith, w32, SFits, to_z, of_z, le-ltb, lt-ltb}
 use lib.IntN.{sub_ℕ}
 use lib.Signed.{mag}
 use mir.ValLaws.{to_z_pos, to_z-of_z}

@@ -1,8 +1,7 @@
 -- R3.10 to R3.13: advancing and completing a record. Definitions only.
-use Rattle.std.specs.Prelude.{ℕ, ◌+◌, Bool, true, false, cond, ◌&&◌, eqb}
+use Rattle.std.specs.Prelude.{ℕ, ◌+◌, Bool, cond, ◌&&◌, eqb}
 use Rattle.floats.specs.Helpers.{zerof}
 use Rattle.amounts.specs.Amounts.{cleared_to}
-use Rattle.seats.specs.declared.PlayerBitSet.{PlayerBitSet}
 use Rattle.seats.specs.Set.{of_bits}
 use Rattle.rounds.specs.declared.Round.{Round}
 use Rattle.rounds.specs.declared.Round.TheVariants.{Complete}

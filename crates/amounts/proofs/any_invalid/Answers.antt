@@ -1,8 +1,6 @@
 -- `amounts::any_invalid`: after i turns the result is that of the first i. Assumes nothing.
-use Prim.Native.Nat.{◌≤◌, ◌-◌}
 use native.Mathlib.Omega.{arith}
-use mathlib.Core.Path.{◌≡◌, refl}
-use borrow.Author.Rules.{rules}
+use mathlib.Core.Path.{refl}
 use mathlib.Core.Path.{sym}
 use Rattle.amounts.specs.Amounts.{any_invalid}
 use Rattle.amounts.proofs.Folds.{fold_end, invalid-next}

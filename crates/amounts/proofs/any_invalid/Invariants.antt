@@ -1,11 +1,7 @@
 -- `amounts::any_invalid`: after i turns the result is that of the first i. Assumes nothing.
 use Prim.Native.Nat.{◌≤◌, ◌-◌}
-use native.Mathlib.Omega.{arith}
-use mathlib.Core.Path.{◌≡◌, refl}
-use borrow.Author.Rules.{rules}
-use mathlib.Core.Path.{sym}
+use mathlib.Core.Path.{◌≡◌}
 use Rattle.amounts.specs.Amounts.{any_invalid}
-use Rattle.amounts.proofs.Folds.{fold_end, invalid-next}
 use Rattle.amounts.proofs.any_invalid.Given as goal
 
 abbrev pub invariant-loop-i : goal.invariant-loop-i

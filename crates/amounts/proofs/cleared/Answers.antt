@@ -1,12 +1,7 @@
 -- `amounts::cleared`: after i turns the list is filled up to i. Assumes nothing.
-use Prim.Native.Nat.{◌≤◌, ◌-◌}
 use native.Mathlib.Omega.{arith}
-use mathlib.Core.Path.{◌≡◌, refl}
-use borrow.Author.Rules.{rules}
-use lib.ListN.{get_or}
-use lib.Ieee.{nan, of_bits}
-use Rattle.floats.specs.Helpers.{zerof}
-use Rattle.commons.specs.Filled.{filled}
+use mathlib.Core.Path.{refl}
+use lib.Ieee.{of_bits}
 use Rattle.commons.proofs.Filled.{filled_none, filled_next, filled-end}
 use mathlib.Core.Path.{sym}
 use Rattle.amounts.proofs.cleared.Goals as goal

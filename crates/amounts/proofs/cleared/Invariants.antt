@@ -1,14 +1,8 @@
 -- `amounts::cleared`: after i turns the list is filled up to i. Assumes nothing.
 use Prim.Native.Nat.{◌≤◌, ◌-◌}
-use native.Mathlib.Omega.{arith}
-use mathlib.Core.Path.{◌≡◌, refl}
-use borrow.Author.Rules.{rules}
-use lib.ListN.{get_or}
-use lib.Ieee.{nan, of_bits}
+use mathlib.Core.Path.{◌≡◌}
 use Rattle.floats.specs.Helpers.{zerof}
 use Rattle.commons.specs.Filled.{filled}
-use Rattle.commons.proofs.Filled.{filled_none, filled_next, filled-end}
-use mathlib.Core.Path.{sym}
 use Rattle.amounts.proofs.cleared.Given as goal
 
 abbrev pub invariant-loop-i : goal.invariant-loop-i

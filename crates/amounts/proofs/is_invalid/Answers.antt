@@ -1,6 +1,5 @@
 -- `amounts::is_invalid`: the code's 0.0 is the definition's. Assumes nothing.
 use lib.Ieee.{of_bits}
-use borrow.Author.Rules.{rules}
 use Rattle.amounts.proofs.is_invalid.Goals as goal
 
 pub returns : goal.returns

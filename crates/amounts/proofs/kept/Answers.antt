@@ -2,9 +2,7 @@
 use Prim.Native.Nat.{min}
 use native.Mathlib.Omega.{arith}
 use mathlib.Core.Path.{◌∙◌}
-use lib.ListN.{length}
 use lib.Ieee.{nan, of_bits}
-use borrow.Author.Rules.{rules}
 use Rattle.commons.proofs.Filled.{copied-front}
 use Rattle.amounts.specs.Amounts.{zeros}
 use Rattle.amounts.proofs.kept.Goals as goal

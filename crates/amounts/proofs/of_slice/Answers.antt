@@ -4,7 +4,6 @@ use native.Mathlib.Omega.{arith}
 use mathlib.Core.Path.{◌∙◌}
 use lib.ListN.{length}
 use lib.Ieee.{nan, of_bits}
-use borrow.Author.Rules.{rules}
 use Rattle.commons.proofs.Filled.{copied-front}
 use Rattle.amounts.specs.Amounts.{zeros}
 use Rattle.amounts.proofs.of_slice.Goals as goal

@@ -1,13 +1,7 @@
 -- `amounts::sum`: after i turns the result is that of the first i. Assumes nothing.
 use Prim.Native.Nat.{◌≤◌, ◌-◌}
-use native.Mathlib.Omega.{arith}
-use mathlib.Core.Path.{◌≡◌, refl}
-use borrow.Author.Rules.{rules}
-use lib.ListN.{get_or}
-use lib.Ieee.{nan, of_bits}
-use mathlib.Core.Path.{sym}
+use mathlib.Core.Path.{◌≡◌}
 use Rattle.amounts.specs.Amounts.{sum_of}
-use Rattle.amounts.proofs.Folds.{fold_end, sum-next}
 use Rattle.amounts.proofs.sum.Given as goal
 
 abbrev pub invariant-loop-i : goal.invariant-loop-i

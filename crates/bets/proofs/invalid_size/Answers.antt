@@ -1,5 +1,4 @@
 -- `bets::invalid_size`: both tests are what the helpers ensure. Assumes nothing.
-use borrow.Author.Rules.{rules}
 use Rattle.bets.proofs.invalid_size.Goals as goal
 
 pub returns : goal.returns

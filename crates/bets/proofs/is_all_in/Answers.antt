@@ -1,6 +1,5 @@
 -- `bets::is_all_in`: each helper's result in turn. Assumes nothing.
 use lib.Ieee.{of_bits}
-use borrow.Author.Rules.{rules}
 use Rattle.bets.proofs.is_all_in.Goals as goal
 
 pub returns : goal.returns

@@ -1,5 +1,4 @@
 -- `bets::payment`: the smaller is what min ensures. Assumes nothing.
-use borrow.Author.Rules.{rules}
 use Rattle.bets.proofs.payment.Goals as goal
 
 pub returns : goal.returns

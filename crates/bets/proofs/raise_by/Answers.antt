@@ -1,6 +1,5 @@
 -- `bets::raise_by`: the code's 0.0 is the definition's. Assumes nothing.
 use lib.Ieee.{of_bits}
-use borrow.Author.Rules.{rules}
 use Rattle.bets.proofs.raise_by.Goals as goal
 
 pub returns : goal.returns

@@ -1,6 +1,5 @@
 -- `bets::size_of`: each return is what the rows come to at the tests that led there. Assumes nothing.
 use mathlib.Core.Path.{sym, ◌∙◌}
-use borrow.Author.Rules.{rules}
 use Rattle.bets.specs.Bet.{sized}
 use Rattle.bets.proofs.size_of.Goals as goal
 

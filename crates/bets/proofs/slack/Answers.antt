@@ -1,6 +1,5 @@
 -- `bets::slack`: each helper's result in turn. Assumes nothing.
 use lib.Ieee.{of_bits}
-use borrow.Author.Rules.{rules}
 use Rattle.bets.proofs.slack.Goals as goal
 
 pub returns : goal.returns

@@ -1,5 +1,4 @@
 -- `bets::validate`: forced or not, as the callee ensures. Assumes nothing.
-use borrow.Author.Rules.{rules}
 use Rattle.bets.specs.Bet.{bet_size, size_for}
 use Rattle.bets.proofs.validate.Goals as goal
 

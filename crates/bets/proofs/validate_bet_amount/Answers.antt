@@ -1,6 +1,5 @@
 -- `bets::validate_bet_amount`: each return is what the rows come to at the tests that led there. Assumes nothing.
 use mathlib.Core.Path.{sym, ◌∙◌}
-use borrow.Author.Rules.{rules}
 use Rattle.bets.specs.Bet.{sized, bet_size}
 use Rattle.bets.proofs.validate_bet_amount.Goals as goal
 

@@ -1,5 +1,4 @@
 -- `bets::validate_forced_bet_amount`: it has no row that could hold. Assumes nothing.
-use borrow.Author.Rules.{rules}
 use Rattle.bets.specs.Bet.{size_for}
 use Rattle.bets.proofs.validate_forced_bet_amount.Goals as goal
 

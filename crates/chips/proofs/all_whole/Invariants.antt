@@ -1,10 +1,8 @@
 -- `chips::all_whole`: the loop has tested the first i places. Above 16 there is a place past the array's end, where nothing whole stands. Assumes nothing.
-use Rattle.std.proofs.Common.{◌≡◌, ◌-◌, ◌≤◌, get_or, sym, refl, le_antisymm, arith}
+use Rattle.std.proofs.Common.{◌≡◌, ◌-◌, ◌≤◌, get_or}
 use lib.Ieee.{nan}
 use Rattle.commons.specs.Folds.{all_to}
-use Rattle.chips.specs.Whole.{is_whole, all_whole}
-use Rattle.commons.proofs.Folds.{all-next}
-use Rattle.chips.proofs.Lists.{too_long}
+use Rattle.chips.specs.Whole.{is_whole}
 use Rattle.chips.proofs.all_whole.Given as goal
 
 abbrev pub invariant-loop-i : goal.invariant-loop-i

@@ -1,5 +1,5 @@
 -- `chips::chips_in`: a whole amount lies where the cast gives its whole part. Assumes nothing.
-use Rattle.std.proofs.Common.{sym, ◌∙◌, arith, rules}
+use Rattle.std.proofs.Common.{sym, ◌∙◌, arith}
 use Rattle.chips.specs.Whole.{chips_in}
 use Rattle.chips.proofs.Whole.{whole-between, castable, cast_is, part-le}
 use Rattle.chips.proofs.chips_in.Goals as goal

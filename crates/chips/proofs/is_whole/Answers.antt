@@ -1,5 +1,5 @@
 -- `chips::is_whole`: between 0 and 8,000 the cast cuts the fraction, and what is left equals the amount where there was none. Assumes nothing.
-use Rattle.std.proofs.Common.{◌∙◌, arith, rules}
+use Rattle.std.proofs.Common.{◌∙◌, arith}
 use lib.Ieee.{of_bits, of_int}
 use Rattle.chips.proofs.Whole.{in_range_lem, castable, cast_is, part-le, tested, untested}
 use Rattle.chips.proofs.is_whole.Goals as goal

@@ -1,8 +1,8 @@
 -- `chips::sum_chips`: the loop has added the first i places; past the array's end nothing is left to add. Assumes nothing.
-use Rattle.std.proofs.Common.{◌≡◌, ◌-◌, ◌≤◌, min, length, get_or, refl, ◌∙◌, arith}
+use Rattle.std.proofs.Common.{◌≡◌, min, length, get_or, refl, ◌∙◌, arith}
 use lib.Ieee.{nan}
 use Rattle.commons.specs.Folds.{sum_to}
-use Rattle.chips.specs.Whole.{chips_in, sum_chips}
+use Rattle.chips.specs.Whole.{sum_chips}
 use Rattle.commons.proofs.Folds.{sum-next}
 use Rattle.chips.proofs.Whole.{chips-le}
 use Rattle.chips.proofs.Lists.{sum-le, no_more}

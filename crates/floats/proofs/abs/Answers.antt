@@ -1,6 +1,4 @@
 -- `floats::abs`: each arm by the sign that its test found. Assumes nothing.
-use borrow.Author.Rules.{rules}
-use mathlib.Core.Path.{sym, ◌∙◌}
 use Rattle.floats.proofs.Laws.{abs_negative, abs_positive}
 use Rattle.floats.proofs.abs.Goals as goal
 

@@ -1,5 +1,4 @@
 -- `floats::is_near_zero`: the constant is the definition's, and abs gives what stands before it. Assumes nothing.
-use borrow.Author.Rules.{rules}
 use lib.Ieee.{of_bits}
 use Rattle.floats.specs.Helpers.{near_zero}
 use Rattle.floats.proofs.is_near_zero.Goals as goal

@@ -1,9 +1,8 @@
 -- `floats::is_sign_negative`: the sign bit is the sign, where x is no NaN. Assumes nothing.
 use borrow.Author.Rules.{rules}
 use mathlib.Core.Path.{sym, ◌∙◌, subst}
-use mathlib.Core.Bool.{Bool, not, false}
+use mathlib.Core.Bool.{Bool, not}
 use lib.Dec.{T}
-use lib.Ieee.{is_nan}
 use Rattle.floats.proofs.Laws.{sign_bit, nan-no_sign}
 use Rattle.floats.proofs.is_sign_negative.Goals as goal
 

@@ -1,5 +1,4 @@
 -- `floats::max`: each arm is what the definition picks at the tests that led there. Assumes nothing.
-use borrow.Author.Rules.{rules}
 use mathlib.Core.Path.{sym, ◌∙◌}
 use Rattle.floats.specs.Helpers.{max_of}
 use Rattle.floats.proofs.max.Goals as goal

@@ -1,6 +1,5 @@
 -- `layers::awards`: what is paid out where the hand is payable, and nothing where it is not. Assumes nothing.
 use mathlib.Core.Path.{sym, ◌∙◌}
-use borrow.Author.Rules.{rules}
 use Rattle.layers.specs.Settlement.{awards_of}
 use Rattle.layers.proofs.awards.Goals as goal
 

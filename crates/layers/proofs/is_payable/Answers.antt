@@ -1,6 +1,5 @@
 -- `layers::is_payable`: the tests are the definition's; what is put in up to 8,001 shows whether the pot passes 8,000. Assumes nothing.
 use borrow.Author.Tests.{le-leb, lt-leb}
-use borrow.Author.Rules.{rules}
 use Rattle.layers.specs.Settlement.{is_payable}
 use Rattle.layers.proofs.Holding.{pot-limit}
 use Rattle.layers.proofs.is_payable.Goals as goal

@@ -1,7 +1,5 @@
 -- `layers::paid_out`: each turn pays the layer under u, and goes on at the level below until there is none. Assumes nothing.
-use native.Mathlib.Omega.{arith}
-use Rattle.layers.proofs.Payable.{payable}
-use Rattle.layers.proofs.Paying.{Paying, starts, falls, enough, amount-le, asked, goes_on, ends}
+use Rattle.layers.proofs.Paying.{Paying}
 use Rattle.layers.proofs.paid_out.Given as goal
 
 abbrev pub invariant-loop-h : goal.invariant-loop-h

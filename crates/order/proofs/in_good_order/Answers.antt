@@ -4,8 +4,6 @@ use native.Mathlib.Omega.{arith}
 use mathlib.Core.Path.{◌≡◌, sym, ap, ◌∙◌}
 use mathlib.Core.Bool.{◌&&◌}
 use lib.Dec.{leb, eqb}
-use borrow.Author.Rules.{rules}
-use borrow.Author.Tests.{not-true, not-false}
 use Rattle.amounts.specs.Amounts.{largest_of}
 use Rattle.chips.specs.Whole.{most, chips_in}
 use Rattle.chips.proofs.Whole.{chips-le}

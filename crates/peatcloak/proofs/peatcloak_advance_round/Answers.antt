@@ -1,5 +1,4 @@
 -- `peatcloak::peatcloak_advance_round`: the next round in place on a sound table, and 19 else. Assumes nothing.
-use borrow.Author.Rules.{rules}
 use Rattle.table.specs.Rounds.{advance_of}
 use Rattle.layout.specs.Standing.{table_at}
 use Rattle.peatcloak.specs.Calls.{stepped}

@@ -2,7 +2,6 @@
 use Rattle.table.specs.Pay.{award_of}
 use Rattle.table.proofs.LawsSound.{award-accepted}
 use Rattle.peatcloak.proofs.LawsCalls.{step-done, step-nothing}
-use borrow.Author.Rules.{rules}
 use Rattle.peatcloak.proofs.peatcloak_award.Goals as goal
 
 pub returns-then-stands : goal.returns-then-stands

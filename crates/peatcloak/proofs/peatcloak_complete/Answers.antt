@@ -2,7 +2,6 @@
 use Rattle.table.specs.Rounds.{complete_of}
 use Rattle.table.proofs.LawsSound.{complete-accepted}
 use Rattle.peatcloak.proofs.LawsCalls.{step-done, step-nothing}
-use borrow.Author.Rules.{rules}
 use Rattle.peatcloak.proofs.peatcloak_complete.Goals as goal
 
 pub returns-then-stands : goal.returns-then-stands

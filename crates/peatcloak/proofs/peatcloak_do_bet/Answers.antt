@@ -3,7 +3,6 @@ use lib.ListN.{length}
 use lib.Dec.{eqb}
 use mathlib.Core.Bool.{not}
 use mathlib.Core.Path.{sym, ◌∙◌}
-use borrow.Author.Rules.{rules}
 use Rattle.layout.proofs.LawsRead.{room_of, stands-room}
 use Rattle.peatcloak.proofs.LawsBet.{on-bet, no-bet, bad-bet}
 use Rattle.peatcloak.proofs.peatcloak_do_bet.Goals as goal

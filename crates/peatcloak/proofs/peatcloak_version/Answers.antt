@@ -1,7 +1,6 @@
 -- `peatcloak::peatcloak_version`: four words are copied where there is room for them. Assumes nothing.
 use mathlib.Core.Path.{refl}
 use borrow.Author.Tests.{le-leb, lt-leb}
-use borrow.Author.Rules.{rules}
 use Rattle.peatcloak.proofs.peatcloak_version.Goals as goal
 
 pub returns-then-out-ge4 : goal.returns-then-out-ge4

@@ -1,6 +1,5 @@
 -- `rounds::is_sound`: the last test is what is_below ensures. Assumes nothing.
 use Rattle.rounds.specs.Sound.{sound_parts}
-use borrow.Author.Rules.{rules}
 use Rattle.rounds.proofs.is_sound.Goals as goal
 
 pub returns : goal.returns

@@ -1,5 +1,4 @@
 -- `settlement::hand_of`: the bets are counted, and `first` is the seat after the dealer. Assumes nothing.
-use Rattle.std.proofs.Common.{rules}
 use Rattle.settlement.proofs.hand_of.Goals as goal
 
 pub returns : goal.returns

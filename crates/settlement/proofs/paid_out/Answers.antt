@@ -1,5 +1,4 @@
 -- `settlement::paid_out`: stacks, winnings and rewards are what its callees ensure. Assumes nothing.
-use Rattle.std.proofs.Common.{rules}
 use Rattle.settlement.proofs.paid_out.Goals as goal
 
 pub returns : goal.returns

@@ -1,5 +1,5 @@
 -- `settlement::settle`: each case of the verdict. Assumes nothing.
-use Rattle.std.proofs.Common.{sym, ◌∙◌, rules}
+use Rattle.std.proofs.Common.{sym, ◌∙◌}
 use Rattle.settlement.proofs.Accepted.{settled-by, verdict-paid}
 use Rattle.table.proofs.Sound.{sound}
 use Rattle.settlement.proofs.settle.Goals as goal

@@ -1,5 +1,4 @@
 -- `settlement::verdict`: each test and each link of the chain is what its callee ensures. Assumes nothing.
-use Rattle.std.proofs.Common.{rules}
 use Rattle.settlement.proofs.verdict.Goals as goal
 
 pub returns : goal.returns

@@ -1,5 +1,4 @@
 -- `table::is_round`: the number is what number ensures. Assumes nothing.
-use borrow.Author.Rules.{rules}
 use Rattle.table.proofs.is_round.Goals as goal
 
 pub returns : goal.returns

@@ -1,6 +1,5 @@
 -- `builder::GameStateBuilder::amounts_fault`: each test and each row is what its callee ensures. Assumes nothing.
 use lib.Ieee.{of_bits}
-use borrow.Author.Rules.{rules}
 use Rattle.builder.proofs.GameStateBuilder.amounts_fault.Goals as goal
 
 pub returns : goal.returns

@@ -1,6 +1,5 @@
 -- `builder::GameStateBuilder::bets_or_none`: each arm by its test. Assumes nothing.
 use lib.Ieee.{of_bits}
-use borrow.Author.Rules.{rules}
 use Rattle.builder.proofs.GameStateBuilder.bets_or_none.Goals as goal
 
 pub returns-then-g : goal.returns-then-g

@@ -1,5 +1,4 @@
 -- `builder::GameStateBuilder::blinds`: one setter after the other. Assumes nothing.
-use borrow.Author.Rules.{rules}
 use Rattle.builder.proofs.GameStateBuilder.blinds.Goals as goal
 
 pub returns : goal.returns

@@ -1,5 +1,4 @@
 -- `builder::GameStateBuilder::board`: the list is what cards_of ensures. Assumes nothing.
-use borrow.Author.Rules.{rules}
 use Rattle.builder.proofs.GameStateBuilder.board.Goals as goal
 
 pub returns : goal.returns

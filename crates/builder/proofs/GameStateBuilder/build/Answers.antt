@@ -1,6 +1,5 @@
 -- `builder::GameStateBuilder::build`: each case of the verdict. Assumes nothing.
 use mathlib.Core.Path.{sym, ◌∙◌}
-use borrow.Author.Rules.{rules}
 use Rattle.builder.specs.Build.{build_of}
 use Rattle.builder.proofs.GameStateBuilder.build.Goals as goal
 

@@ -1,6 +1,5 @@
 -- `builder::GameStateBuilder::built`: each field is what its callee ensures. Assumes nothing.
 use lib.Ieee.{of_bits}
-use borrow.Author.Rules.{rules}
 use Prim.Native.Nat.{min}
 use mathlib.Core.Path.{◌∙◌}
 use mathlib.Core.Bool.{not, ◌||◌}

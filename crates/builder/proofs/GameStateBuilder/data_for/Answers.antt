@@ -1,7 +1,6 @@
 -- `builder::GameStateBuilder::data_for`: each arm by its test, the list and the set as the callees ensure. Assumes nothing.
 use lib.Ieee.{of_bits}
 use Rattle.builder.specs.Build.{data_for}
-use borrow.Author.Rules.{rules}
 use Rattle.builder.proofs.GameStateBuilder.data_for.Goals as goal
 
 pub returns-then-g : goal.returns-then-g

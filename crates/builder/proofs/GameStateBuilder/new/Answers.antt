@@ -1,6 +1,5 @@
 -- `builder::GameStateBuilder::new`: the code's 0.0 is the definition's. Assumes nothing.
 use lib.Ieee.{of_bits}
-use borrow.Author.Rules.{rules}
 use Rattle.builder.proofs.GameStateBuilder.new.Goals as goal
 
 pub returns : goal.returns

@@ -1,5 +1,4 @@
 -- `builder::GameStateBuilder::num_players_with_stack`: the list is what kept ensures. Assumes nothing.
-use borrow.Author.Rules.{rules}
 use Rattle.builder.proofs.GameStateBuilder.num_players_with_stack.Goals as goal
 
 pub returns : goal.returns

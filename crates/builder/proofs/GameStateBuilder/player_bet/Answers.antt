@@ -1,5 +1,4 @@
 -- `builder::GameStateBuilder::player_bet`: the list is what of_slice ensures. Assumes nothing.
-use borrow.Author.Rules.{rules}
 use Rattle.builder.proofs.GameStateBuilder.player_bet.Goals as goal
 
 pub returns : goal.returns

@@ -1,7 +1,6 @@
 -- `builder::GameStateBuilder::small_blind_or_half`: the code's 2.0 is the definition's. Assumes nothing.
 use lib.Ieee.{of_bits}
 use Rattle.builder.specs.Build.{small_blind_of}
-use borrow.Author.Rules.{rules}
 use Rattle.builder.proofs.GameStateBuilder.small_blind_or_half.Goals as goal
 
 pub returns : goal.returns

@@ -1,5 +1,4 @@
 -- `builder::GameStateBuilder::stacks`: the list is what of_slice ensures. Assumes nothing.
-use borrow.Author.Rules.{rules}
 use Rattle.builder.proofs.GameStateBuilder.stacks.Goals as goal
 
 pub returns : goal.returns

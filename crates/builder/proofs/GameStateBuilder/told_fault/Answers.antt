@@ -1,5 +1,4 @@
 -- `builder::GameStateBuilder::told_fault`: each row is what its callee ensures. Assumes nothing.
-use borrow.Author.Rules.{rules}
 use Rattle.builder.proofs.GameStateBuilder.told_fault.Goals as goal
 
 pub returns : goal.returns

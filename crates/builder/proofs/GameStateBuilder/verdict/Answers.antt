@@ -1,8 +1,4 @@
 -- `builder::GameStateBuilder::verdict`: the rows one after another. Assumes nothing.
-use mathlib.Core.Path.{◌∙◌}
-use borrow.Author.Rules.{rules}
-use Rattle.refusals.specs.Rows.{judge_then}
-use Rattle.builder.specs.Build.{told_rows, amount_rows, list_rows}
 use Rattle.builder.proofs.LawsRows.{rows_judged}
 use Rattle.builder.proofs.GameStateBuilder.verdict.Goals as goal
 

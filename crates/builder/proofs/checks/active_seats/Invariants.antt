@@ -1,13 +1,10 @@
 -- `builder::checks::active_seats`: after i turns the set is that of the first i seats. Assumes nothing.
 use Prim.Native.Nat.{◌≤◌, ◌-◌}
-use native.Mathlib.Omega.{arith}
-use mathlib.Core.Path.{◌≡◌, refl, sym}
-use borrow.Author.Rules.{rules}
+use mathlib.Core.Path.{◌≡◌}
 use lib.ListN.{get_or}
 use lib.Ieee.{nan}
 use Rattle.seats.specs.Bits.{seats_where}
 use Rattle.builder.specs.Build.{active_at}
-use Rattle.builder.proofs.Building.{all-seats, seats-next}
 use Rattle.builder.proofs.checks.active_seats.Given as goal
 
 abbrev pub invariant-loop-i : goal.invariant-loop-i

@@ -1,12 +1,7 @@
 -- `builder::checks::all_in_seats`: after i turns the set is that of the first i seats. Assumes nothing.
-use Prim.Native.Nat.{◌≤◌, ◌-◌}
 use native.Mathlib.Omega.{arith}
-use mathlib.Core.Path.{◌≡◌, refl, sym}
-use borrow.Author.Rules.{rules}
-use lib.ListN.{get_or}
-use lib.Ieee.{nan}
+use mathlib.Core.Path.{refl, sym}
 use Rattle.seats.specs.Bits.{seats_where}
-use Rattle.builder.specs.Build.{all_in_at}
 use Rattle.builder.proofs.Building.{all-seats, seats-next}
 use Rattle.builder.proofs.checks.all_in_seats.Goals as goal
 

@@ -1,10 +1,6 @@
 -- `builder::checks::card_fault`: from the last card down, what was found is the first fault from i on. Assumes nothing.
-use Prim.Native.Nat.{◌≤◌, ◌-◌}
 use native.Mathlib.Omega.{arith}
-use mathlib.Core.Path.{◌≡◌, refl, sym}
-use borrow.Author.Rules.{rules}
-use Rattle.refusals.specs.Rows.{judge_then}
-use Rattle.builder.specs.Cards.{card_rows}
+use mathlib.Core.Path.{refl, sym}
 use Rattle.builder.proofs.Building.{cards-next, no-cards_yet, all-cards}
 use Rattle.builder.proofs.checks.card_fault.Goals as goal
 

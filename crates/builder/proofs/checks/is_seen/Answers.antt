@@ -1,8 +1,6 @@
 -- `builder::checks::is_seen`: after i turns the result is that of the first i. Assumes nothing.
-use Prim.Native.Nat.{◌≤◌, ◌-◌}
 use native.Mathlib.Omega.{arith}
-use mathlib.Core.Path.{◌≡◌, refl, sym}
-use borrow.Author.Rules.{rules}
+use mathlib.Core.Path.{refl}
 use Rattle.builder.specs.Cards.{seen_to}
 use Rattle.builder.proofs.Building.{all_seen, seen_next}
 use Rattle.builder.proofs.checks.is_seen.Goals as goal

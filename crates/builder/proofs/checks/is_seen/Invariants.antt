@@ -1,10 +1,7 @@
 -- `builder::checks::is_seen`: after i turns the result is that of the first i. Assumes nothing.
 use Prim.Native.Nat.{◌≤◌, ◌-◌}
-use native.Mathlib.Omega.{arith}
-use mathlib.Core.Path.{◌≡◌, refl, sym}
-use borrow.Author.Rules.{rules}
+use mathlib.Core.Path.{◌≡◌}
 use Rattle.builder.specs.Cards.{seen_to}
-use Rattle.builder.proofs.Building.{all_seen, seen_next}
 use Rattle.builder.proofs.checks.is_seen.Given as goal
 
 abbrev pub invariant-loop-i : goal.invariant-loop-i

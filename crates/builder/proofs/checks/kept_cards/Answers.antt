@@ -3,7 +3,6 @@ use Prim.Native.Nat.{min}
 use native.Mathlib.Omega.{arith}
 use mathlib.Core.Path.{◌∙◌}
 use lib.ListN.{replicate}
-use borrow.Author.Rules.{rules}
 use Rattle.commons.proofs.Filled.{copied-front}
 use Rattle.builder.proofs.checks.kept_cards.Goals as goal
 

@@ -1,11 +1,6 @@
 -- `commons::comparing::stands_at`: after k turns the first k places are compared. Assumes nothing.
-use Prim.Native.Nat.{◌+◌, ◌≤◌, ◌-◌}
 use native.Mathlib.Omega.{arith}
-use mathlib.Core.Path.{◌≡◌, refl}
-use lib.Dec.{eqb}
-use lib.ListN.{get_or, length}
-use borrow.Author.Rules.{rules}
-use Rattle.commons.specs.Folds.{all_to}
+use mathlib.Core.Path.{refl}
 use Rattle.commons.proofs.Folds.{all_none, all-next, all_end}
 use Rattle.commons.proofs.Stands.{no_room_lem, by-places}
 use Rattle.commons.proofs.comparing.stands_at.Goals as goal

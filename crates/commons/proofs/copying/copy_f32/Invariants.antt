@@ -1,12 +1,9 @@
 -- `commons::copying::copy_f32`: after k turns the first k places are laid. Assumes nothing.
 use Prim.Native.Nat.{◌+◌, ◌≤◌, ◌-◌}
-use native.Mathlib.Omega.{arith}
-use mathlib.Core.Path.{◌≡◌, refl}
-use lib.ListN.{get_or, length, length-set}
+use mathlib.Core.Path.{◌≡◌}
+use lib.ListN.{get_or, length}
 use lib.Ieee.{nan}
-use borrow.Author.Rules.{rules}
 use Rattle.commons.specs.Filled.{laid}
-use Rattle.commons.proofs.Filled.{laid_none, laid_next, laid_end}
 use Rattle.commons.proofs.copying.copy_f32.Given as goal
 
 abbrev pub invariant-loop-k : goal.invariant-loop-k

@@ -1,11 +1,8 @@
 -- `commons::copying::copy_u32`: after k turns the first k places are laid. Assumes nothing.
 use Prim.Native.Nat.{◌+◌, ◌≤◌, ◌-◌}
-use native.Mathlib.Omega.{arith}
-use mathlib.Core.Path.{◌≡◌, refl}
-use lib.ListN.{get_or, length, length-set}
-use borrow.Author.Rules.{rules}
+use mathlib.Core.Path.{◌≡◌}
+use lib.ListN.{get_or, length}
 use Rattle.commons.specs.Filled.{laid}
-use Rattle.commons.proofs.Filled.{laid_none, laid_next, laid_end}
 use Rattle.commons.proofs.copying.copy_u32.Given as goal
 
 abbrev pub invariant-loop-k : goal.invariant-loop-k

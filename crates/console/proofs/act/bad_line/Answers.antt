@@ -1,5 +1,4 @@
 -- `console::act::bad_line`: the number is that of the refusal. Assumes nothing.
-use Rattle.std.proofs.Common.{rules}
 use Rattle.console.proofs.act.bad_line.Goals as goal
 
 pub returns : goal.returns

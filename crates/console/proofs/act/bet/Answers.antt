@@ -1,5 +1,5 @@
 -- `console::act::bet`: the step of the table there. Assumes nothing.
-use Rattle.std.proofs.Common.{ap, ◌∙◌, rules}
+use Rattle.std.proofs.Common.{ap, ◌∙◌}
 use Rattle.console.specs.Act.{wagered}
 use Rattle.console.proofs.act.bet.Goals as goal
 

@@ -1,5 +1,5 @@
 -- `console::act::complete`: the step of the table there. Assumes nothing.
-use Rattle.std.proofs.Common.{ap, ◌∙◌, rules}
+use Rattle.std.proofs.Common.{ap, ◌∙◌}
 use Rattle.console.specs.Act.{stepped}
 use Rattle.console.proofs.act.complete.Goals as goal
 

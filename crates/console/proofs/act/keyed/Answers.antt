@@ -1,5 +1,4 @@
 -- `console::act::keyed`: the first three numbers are the key. Assumes nothing.
-use Rattle.std.proofs.Common.{rules}
 use Rattle.console.proofs.act.keyed.Goals as goal
 
 pub returns : goal.returns

@@ -1,5 +1,4 @@
 -- `console::act::needing`: by whether a table stands. Assumes nothing.
-use Rattle.std.proofs.Common.{rules}
 use Rattle.console.specs.Act.{needing}
 use Rattle.console.proofs.act.needing.Goals as goal
 

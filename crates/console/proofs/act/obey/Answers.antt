@@ -1,5 +1,5 @@
 -- `console::act::obey`: each line does what it asks. Assumes nothing.
-use Rattle.std.proofs.Common.{sym, ◌∙◌, rules}
+use Rattle.std.proofs.Common.{sym, ◌∙◌}
 use Rattle.console.proofs.LawsAct.{does}
 use Rattle.console.proofs.act.obey.Goals as goal
 

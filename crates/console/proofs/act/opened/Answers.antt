@@ -1,5 +1,5 @@
 -- `console::act::opened`: by the builder's answer. Assumes nothing.
-use Rattle.std.proofs.Common.{refl, rules}
+use Rattle.std.proofs.Common.{refl}
 use Rattle.console.proofs.act.opened.Goals as goal
 
 pub returns-in-Stands : goal.returns-in-Stands

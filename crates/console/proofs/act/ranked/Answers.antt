@@ -1,5 +1,5 @@
 -- `console::act::ranked`: by the count; the settlement's number and table are taken as it gives them. Assumes nothing.
-use Rattle.std.proofs.Common.{rules, ne_eqb}
+use Rattle.std.proofs.Common.{ne_eqb}
 use Rattle.console.specs.Act.{ranked}
 use Rattle.console.proofs.LawsAct.{ranks}
 use Rattle.console.proofs.act.ranked.Goals as goal

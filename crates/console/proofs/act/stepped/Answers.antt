@@ -1,5 +1,4 @@
 -- `console::act::stepped`: the number and the table of the step. Assumes nothing.
-use Rattle.std.proofs.Common.{rules}
 use Rattle.console.proofs.act.stepped.Goals as goal
 
 pub returns : goal.returns

@@ -1,5 +1,4 @@
 -- `console::act::wagered`: the number and the table of the step. Assumes nothing.
-use Rattle.std.proofs.Common.{rules}
 use Rattle.console.proofs.act.wagered.Goals as goal
 
 pub returns : goal.returns

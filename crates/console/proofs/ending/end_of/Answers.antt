@@ -1,7 +1,6 @@
 -- `console::ending::end_of`: what is left to play leads to the script's end, and 512 bytes have room for a line, so that the place goes up with each part.
 -- Assumes nothing.
-use Rattle.std.proofs.Common.{◌≡◌, ◌-◌, length, sym, ap, ◌∙◌, arith, rules}
-use Rattle.console.specs.Ending.{end_of}
+use Rattle.std.proofs.Common.{sym, ap, ◌∙◌, arith}
 use Rattle.console.specs.declared.play.Console.{Console}
 use Rattle.console.specs.declared.play.Played.{Played}
 use Rattle.console.proofs.LawsEnding.{leads_to, starts, no_more, part_leads}

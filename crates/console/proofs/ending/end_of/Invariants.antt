@@ -1,11 +1,8 @@
 -- `console::ending::end_of`: what is left to play leads to the script's end, and 512 bytes have room for a line, so that the place goes up with each part.
 -- Assumes nothing.
-use Rattle.std.proofs.Common.{◌≡◌, ◌-◌, length, sym, ap, ◌∙◌, arith, rules}
+use Rattle.std.proofs.Common.{◌≡◌, ◌-◌, length}
 use Rattle.console.specs.Ending.{end_of}
-use Rattle.console.specs.declared.play.Console.{Console}
-use Rattle.console.specs.declared.play.Played.{Played}
-use Rattle.console.proofs.LawsEnding.{leads_to, starts, no_more, part_leads}
-use Rattle.console.proofs.LawsWhole.{script-moves}
+use Rattle.console.proofs.LawsEnding.{leads_to}
 use Rattle.console.proofs.ending.end_of.Given as goal
 
 abbrev pub invariant-loop-at : goal.invariant-loop-at

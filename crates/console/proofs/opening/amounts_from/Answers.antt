@@ -1,8 +1,6 @@
 -- `console::opening::amounts_from`: after i turns i amounts are laid, and sixteen are all of them. Assumes nothing.
-use Rattle.std.proofs.Common.{◌≡◌, ◌+◌, ◌-◌, ◌≤◌, length, get_or, refl, arith, length-set, rules}
-use Rattle.commons.specs.Filled.{filled}
+use Rattle.std.proofs.Common.{refl, arith, length-set}
 use Rattle.commons.proofs.Filled.{filled_none, filled_next}
-use Rattle.console.specs.Opening.{chips_of}
 use Rattle.console.proofs.LawsOpening.{amounts-all}
 use Rattle.console.proofs.opening.amounts_from.Goals as goal
 

@@ -1,5 +1,5 @@
 -- `console::opening::open_table`: the builder is told each number in turn. Assumes nothing.
-use Rattle.std.proofs.Common.{ap, ◌∙◌, arith, rules}
+use Rattle.std.proofs.Common.{ap, ◌∙◌, arith}
 use Rattle.builder.specs.Build.{build_of}
 use Rattle.console.proofs.LawsOpening.{counted, stacks-fit, stacks-counted, opens, opens_not}
 use Rattle.console.proofs.opening.open_table.Goals as goal

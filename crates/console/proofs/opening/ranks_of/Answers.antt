@@ -1,5 +1,5 @@
 -- `console::opening::ranks_of`: a copy from the front to the front. Assumes nothing.
-use Rattle.std.proofs.Common.{replicate, refl, ◌∙◌, arith, rules}
+use Rattle.std.proofs.Common.{replicate, refl, ◌∙◌, arith}
 use Rattle.commons.proofs.Filled.{copied-front}
 use Rattle.commons.proofs.Pasted.{filled-front}
 use Rattle.console.proofs.opening.ranks_of.Goals as goal

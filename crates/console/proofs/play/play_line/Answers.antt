@@ -1,5 +1,4 @@
 -- `console::play::play_line`: the text is of the line's act, and `print` says that 72 bytes hold it. Assumes nothing.
-use Rattle.std.proofs.Common.{rules}
 use Rattle.console.proofs.LawsAct.{turn_is, said-short}
 use Rattle.console.proofs.play.play_line.Goals as goal
 

@@ -1,5 +1,4 @@
 -- `console::play::play_script`: by the length of the script. Assumes nothing.
-use Rattle.std.proofs.Common.{rules}
 use Rattle.console.proofs.LawsLong.{part-short, part-long}
 use Rattle.console.proofs.play.play_script.Goals as goal
 

@@ -1,6 +1,6 @@
 -- `console::play::play_some`: after some lines `Sofar` holds, and the place goes up with each. Assumes nothing.
-use Rattle.std.proofs.Common.{◌-◌, length, arith, rules}
-use Rattle.console.proofs.LawsParts.{Sofar, begins, one_more, goes-up, fits, goes_on, ended, full}
+use Rattle.std.proofs.Common.{◌-◌, length}
+use Rattle.console.proofs.LawsParts.{Sofar}
 use Rattle.console.proofs.play.play_some.Given as goal
 
 abbrev pub invariant-loop-at : goal.invariant-loop-at

@@ -1,5 +1,5 @@
 -- `console::play::refuse`: nothing at the end or without room, else the one line. Assumes nothing.
-use Rattle.std.proofs.Common.{length, rules}
+use Rattle.std.proofs.Common.{length}
 use Rattle.console.proofs.LawsLong.{says_nothing, says-one, is-left, kept_so, laid_so}
 use Rattle.console.proofs.play.refuse.Goals as goal
 

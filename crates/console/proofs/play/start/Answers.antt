@@ -1,5 +1,4 @@
 -- `console::play::start`: no table is `GameState::none`. Assumes nothing.
-use Rattle.std.proofs.Common.{rules}
 use Rattle.console.specs.Play.{at_start}
 use Rattle.console.proofs.play.start.Goals as goal
 

@@ -1,5 +1,5 @@
 -- `console::shown::amount_of`: by the tests; what the conversion does not take is not whole. Assumes nothing.
-use Rattle.std.proofs.Common.{T, sym, subst, rules, le-leb}
+use Rattle.std.proofs.Common.{T, sym, subst, le-leb}
 use lib.Ieee.{of_bits, neg, in_float}
 use borrow.Author.Tests.{lt-leb}
 use Rattle.console.specs.Shown.{amount_of}

@@ -1,5 +1,4 @@
 -- `console::shown::view_of`: by whether a table stands. Assumes nothing.
-use Rattle.std.proofs.Common.{rules}
 use Rattle.console.specs.Shown.{view_of}
 use Rattle.console.proofs.shown.view_of.Goals as goal
 

@@ -1,10 +1,8 @@
 -- `layers::layer::best_rank`: each turn takes one seat more into the best rank of those who reached u. Assumes nothing.
-use Prim.Native.Nat.{◌≤◌, ◌-◌}
 use mathlib.Core.Path.{◌≡◌, refl, sym, ◌∙◌}
 use native.Mathlib.Omega.{arith}
-use borrow.Author.Rules.{rules}
 use Rattle.commons.specs.Folds.{most_to}
-use Rattle.layers.specs.Settlement.{rank, reached, best}
+use Rattle.layers.specs.Settlement.{reached, best}
 use Rattle.commons.proofs.Folds.{most-next}
 use Rattle.layers.proofs.Levels.{contends-is}
 use Rattle.layers.proofs.layer.best_rank.Goals as goal

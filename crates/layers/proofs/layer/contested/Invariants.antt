@@ -1,12 +1,8 @@
 -- `layers::layer::contested`: each turn takes one seat more into `any_to`. Assumes nothing.
 use Prim.Native.Nat.{◌≤◌, ◌-◌}
-use mathlib.Core.Path.{◌≡◌, refl, sym, ◌∙◌}
-use native.Mathlib.Omega.{arith}
-use borrow.Author.Rules.{rules}
+use mathlib.Core.Path.{◌≡◌}
 use Rattle.commons.specs.Folds.{any_to}
 use Rattle.layers.specs.Settlement.{contends}
-use Rattle.commons.proofs.Folds.{any_next}
-use Rattle.layers.proofs.Levels.{contends-is}
 use Rattle.layers.proofs.layer.contested.Given as goal
 
 abbrev pub invariant-loop-i : goal.invariant-loop-i

@@ -1,12 +1,8 @@
 -- `layers::layer::level_below`: each turn takes one seat more into the largest bet of a contender below u. Assumes nothing.
-use Prim.Native.Nat.{◌≤◌, ◌-◌}
 use mathlib.Core.Path.{◌≡◌, refl, sym, ◌∙◌}
-use mathlib.Core.Bool.{◌&&◌}
 use native.Mathlib.Omega.{arith}
-use borrow.Author.Rules.{rules}
-use lib.Dec.{ltb}
 use Rattle.commons.specs.Folds.{most_to}
-use Rattle.layers.specs.Settlement.{bet, contends, level_below}
+use Rattle.layers.specs.Settlement.{level_below}
 use Rattle.commons.proofs.Folds.{most-next}
 use Rattle.layers.proofs.Levels.{contends-is}
 use Rattle.layers.proofs.layer.level_below.Goals as goal

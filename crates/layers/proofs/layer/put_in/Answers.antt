@@ -1,11 +1,9 @@
 -- `layers::layer::put_in`: each turn adds one seat more, and of 16 numbers of 32 bits the sum fits. Assumes nothing.
-use Prim.Native.Nat.{◌≤◌, ◌-◌, ◌*◌, min}
 use mathlib.Core.Path.{◌≡◌, refl}
 use native.Mathlib.Omega.{arith}
-use borrow.Author.Rules.{rules}
 use Rattle.commons.specs.Folds.{sum_to}
 use Rattle.commons.proofs.Folds.{sum-next}
-use Rattle.layers.specs.Settlement.{bet, put_in}
+use Rattle.layers.specs.Settlement.{put_in}
 use Rattle.layers.proofs.layer.put_in.Goals as goal
 
 pub loop-i-init : goal.loop-i-init

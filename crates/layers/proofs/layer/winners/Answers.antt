@@ -1,8 +1,6 @@
 -- `layers::layer::winners`: each turn takes one seat more into the set of those who reached u with the best rank. Assumes nothing.
-use Prim.Native.Nat.{◌≤◌, ◌-◌}
 use mathlib.Core.Path.{◌≡◌, refl, sym, ◌∙◌}
 use native.Mathlib.Omega.{arith}
-use borrow.Author.Rules.{rules}
 use Rattle.seats.specs.Bits.{seats_where}
 use Rattle.layers.specs.Settlement.{reached, wins}
 use Rattle.layers.proofs.Levels.{contends-is}

@@ -1,12 +1,8 @@
 -- `layers::layer::winners`: each turn takes one seat more into the set of those who reached u with the best rank. Assumes nothing.
 use Prim.Native.Nat.{◌≤◌, ◌-◌}
-use mathlib.Core.Path.{◌≡◌, refl, sym, ◌∙◌}
-use native.Mathlib.Omega.{arith}
-use borrow.Author.Rules.{rules}
+use mathlib.Core.Path.{◌≡◌}
 use Rattle.seats.specs.Bits.{seats_where}
-use Rattle.layers.specs.Settlement.{reached, wins}
-use Rattle.layers.proofs.Levels.{contends-is}
-use Rattle.layers.proofs.Seats.{where_next}
+use Rattle.layers.specs.Settlement.{wins}
 use Rattle.layers.proofs.layer.winners.Given as goal
 
 abbrev pub invariant-loop-i : goal.invariant-loop-i

@@ -1,7 +1,6 @@
 -- `layers::part::ahead`: its test is the definition's. Assumes nothing.
 use native.Mathlib.Omega.{arith}
 use borrow.Author.Tests.{le-leb, lt-leb}
-use borrow.Author.Rules.{rules}
 use Rattle.layers.proofs.part.ahead.Goals as goal
 
 pub overflow_sub-result : goal.overflow_sub-result

@@ -1,7 +1,6 @@
 -- `layers::part::count_below`: the ones of the number that has only the seats below k. Assumes nothing.
 use mathlib.Core.Path.{◌∙◌}
 use native.Mathlib.Omega.{arith}
-use borrow.Author.Rules.{rules}
 use lib.Bits.{bit_and}
 use Rattle.layers.proofs.Seats.{count_masked, count-le}
 use Rattle.layers.proofs.part.count_below.Goals as goal

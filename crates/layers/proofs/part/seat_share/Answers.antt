@@ -1,7 +1,6 @@
 -- `layers::part::seat_share` meets its contract. Assumes nothing.
 use native.Mathlib.Omega.{arith}
 use mathlib.Core.Path.{◌∙◌}
-use borrow.Author.Rules.{rules}
 use Rattle.layers.proofs.part.seat_share.Goals as goal
 
 pub returns : goal.returns

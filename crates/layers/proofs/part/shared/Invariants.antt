@@ -1,16 +1,10 @@
 -- `layers::part::shared`: each turn gives one place more its share; k counts the set's seats so far. Assumes nothing.
 use Prim.Native.Nat.{◌≤◌, ◌-◌, ◌+◌}
-use mathlib.Core.Path.{◌≡◌, refl}
-use native.Mathlib.Nat.{div-le_self}
-use native.Mathlib.Omega.{arith}
-use borrow.Author.Rules.{rules}
+use mathlib.Core.Path.{◌≡◌}
 use lib.ListN.{get_or}
 use Rattle.seats.specs.Bits.{count_to}
 use Rattle.commons.specs.Filled.{filled}
-use Rattle.commons.proofs.Filled.{filled_next}
 use Rattle.layers.specs.Sharing.{share_of}
-use Rattle.layers.proofs.Seats.{count-le, count_most, count_next}
-use Rattle.layers.proofs.Sharing.{share-made}
 use Rattle.layers.proofs.part.shared.Given as goal
 
 abbrev pub invariant-loop-i : goal.invariant-loop-i

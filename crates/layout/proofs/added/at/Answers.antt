@@ -1,5 +1,4 @@
 -- `layout::added::at`: each part is what stands at its place. Assumes nothing.
-use borrow.Author.Rules.{rules}
 use Rattle.keys.specs.Keys.{key_of}
 use Rattle.table.specs.Added.{added_of}
 use Rattle.layout.specs.Added.{added_at}

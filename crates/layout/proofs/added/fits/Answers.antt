@@ -1,6 +1,5 @@
 -- `layout::added::fits`: each test in its place. Assumes nothing.
 use mathlib.Core.Bool.{◌&&◌}
-use borrow.Author.Rules.{rules}
 use Rattle.layout.proofs.added.fits.Goals as goal
 
 pub returns : goal.returns

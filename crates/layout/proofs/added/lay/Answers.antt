@@ -2,7 +2,6 @@
 use native.Mathlib.Omega.{arith}
 use mathlib.Core.Path.{◌∙◌}
 use mathlib.Core.List.{[], ◌∷◌}
-use borrow.Author.Rules.{rules}
 use Rattle.commons.specs.Filled.{copied}
 use Rattle.layout.specs.Places.{ADDED}
 use Rattle.layout.proofs.added.lay.Goals as goal

@@ -1,6 +1,5 @@
 -- `layout::laying::data_words`: each word is the number or the set that it stands for. Assumes nothing.
 use mathlib.Core.List.{[], ◌∷◌}
-use borrow.Author.Rules.{rules}
 use Rattle.layout.proofs.laying.data_words.Goals as goal
 
 pub returns : goal.returns

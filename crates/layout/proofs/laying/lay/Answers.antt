@@ -1,5 +1,4 @@
 -- `layout::laying::lay`: both are laid where both have room, and what the parts say of their types is all that reading back asks. Assumes nothing.
-use borrow.Author.Rules.{rules}
 use borrow.Author.Tests.{le-leb, lt-leb}
 use Rattle.layout.proofs.LawsBack.{laid-all, laid-nothing}
 use Rattle.layout.proofs.laying.lay.Goals as goal

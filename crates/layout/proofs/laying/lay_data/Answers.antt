@@ -1,6 +1,5 @@
 -- `layout::laying::lay_data`: both are laid where both have room. Assumes nothing.
 use borrow.Author.Tests.{le-leb, lt-leb}
-use borrow.Author.Rules.{rules}
 use Rattle.layout.proofs.LawsBack.{data_all, data_nothing}
 use Rattle.layout.proofs.laying.lay_data.Goals as goal
 

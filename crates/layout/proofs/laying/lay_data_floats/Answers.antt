@@ -1,6 +1,5 @@
 -- `layout::laying::lay_data_floats`: the two single amounts, then the list. Assumes nothing.
 use mathlib.Core.Path.{ap, ◌∙◌}
-use borrow.Author.Rules.{rules}
 use Rattle.layout.specs.Places.{ROUND_BETS}
 use Rattle.layout.specs.Laid.{laid_list}
 use Rattle.layout.proofs.laying.lay_data_floats.Goals as goal

@@ -1,7 +1,6 @@
 -- `layout::laying::lay_data_numbers`: two copies. Assumes nothing.
 use mathlib.Core.Path.{◌∙◌}
 use mathlib.Core.List.{[], ◌∷◌}
-use borrow.Author.Rules.{rules}
 use Rattle.commons.specs.Filled.{copied}
 use Rattle.layout.specs.Places.{STARTING_PLAYER_ACTIVE, PASSED}
 use Rattle.layout.proofs.laying.lay_data_numbers.Goals as goal

@@ -1,6 +1,5 @@
 -- `layout::laying::lay_floats`: the single amounts and five lists, one after another. Assumes nothing.
 use mathlib.Core.Path.{ap, ◌∙◌}
-use borrow.Author.Rules.{rules}
 use Rattle.layout.specs.Places.{STACKS, STARTING_STACKS, HAND_BETS, WINNINGS, ROUND_BETS}
 use Rattle.layout.specs.Laid.{laid_list}
 use Rattle.layout.proofs.laying.lay_floats.Goals as goal

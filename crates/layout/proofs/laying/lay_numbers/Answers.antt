@@ -1,6 +1,5 @@
 -- `layout::laying::lay_numbers`: the words, and then what is added. Assumes nothing.
 use mathlib.Core.Path.{ap, ◌∙◌}
-use borrow.Author.Rules.{rules}
 use Rattle.commons.specs.Filled.{copied}
 use Rattle.layout.specs.Places.{ADDED}
 use Rattle.layout.specs.Added.{laid_added}

@@ -1,6 +1,4 @@
 -- `layout::outcome::lay`: by the number. Assumes nothing.
-use mathlib.Core.Path.{◌≡◌}
-use borrow.Author.Rules.{rules}
 use Rattle.layout.specs.Outcome.{outcome}
 use Rattle.layout.proofs.LawsOutcome.{accepted-after, refused-after}
 use Rattle.layout.proofs.outcome.lay.Goals as goal

@@ -1,6 +1,5 @@
 -- `layout::standing::board_fits`: each test in its place. Assumes nothing.
 use mathlib.Core.Bool.{◌&&◌}
-use borrow.Author.Rules.{rules}
 use Rattle.layout.specs.Standing.{board_fits}
 use Rattle.layout.proofs.standing.board_fits.Goals as goal
 

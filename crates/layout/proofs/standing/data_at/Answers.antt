@@ -1,7 +1,6 @@
 -- `layout::standing::data_at`: each field is what stands at its place. Assumes nothing.
 use Rattle.seats.specs.Set.{of_bits}
 use Rattle.rounds.specs.With.{data_of}
-use borrow.Author.Rules.{rules}
 use Rattle.layout.proofs.standing.data_at.Goals as goal
 
 pub returns : goal.returns

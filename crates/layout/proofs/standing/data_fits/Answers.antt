@@ -1,6 +1,5 @@
 -- `layout::standing::data_fits`: each test in its place. Assumes nothing.
 use mathlib.Core.Bool.{◌&&◌}
-use borrow.Author.Rules.{rules}
 use Rattle.layout.specs.Standing.{data_fits}
 use Rattle.layout.proofs.standing.data_fits.Goals as goal
 

@@ -1,5 +1,4 @@
 -- `layout::standing::frame_at`: each field is what stands at its place. Assumes nothing.
-use borrow.Author.Rules.{rules}
 use Rattle.layout.proofs.standing.frame_at.Goals as goal
 
 pub returns : goal.returns

@@ -1,6 +1,5 @@
 -- `layout::standing::is_sound`: what soundness looks at stands there. Assumes nothing.
 use borrow.Author.Tests.{le-leb, lt-leb}
-use borrow.Author.Rules.{rules}
 use Rattle.layout.specs.Standing.{sound_in}
 use Rattle.layout.proofs.standing.is_sound.Goals as goal
 

@@ -1,7 +1,6 @@
 -- `layout::standing::read_data`: by the room. Assumes nothing.
 use mathlib.Core.Path.{sym, ◌∙◌}
 use mathlib.Core.Bool.{false, cond}
-use borrow.Author.Rules.{rules}
 use Rattle.layout.specs.Standing.{data_fits, data_at, data_read_of}
 use Rattle.rounds.specs.Steps.{no_data}
 use Rattle.layout.proofs.standing.read_data.Goals as goal

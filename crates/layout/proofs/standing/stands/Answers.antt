@@ -1,7 +1,6 @@
 -- `layout::standing::stands`: nothing is read of lists that are too short. Assumes nothing.
 use borrow.Author.Tests.{le-leb, lt-leb}
 use borrow.Author.Tests.{le-leb, lt-leb}
-use borrow.Author.Rules.{rules}
 use Rattle.layout.proofs.standing.stands.Goals as goal
 
 pub returns-then-numbers-ge-NUMBERS : goal.returns-then-numbers-ge-NUMBERS

@@ -3,8 +3,6 @@ use mathlib.Core.Path.{sym, ap, ◌∙◌}
 use mathlib.Core.Bool.{◌&&◌}
 use lib.Dec.{leb}
 use lib.ListN.{length}
-use borrow.Author.Tests.{leb-true}
-use borrow.Author.Rules.{rules}
 use Rattle.commons.proofs.Bools.{and_both}
 use Rattle.table.specs.Sound.{sound_frame}
 use Rattle.layout.specs.Places.{FLOATS, NUMBERS}

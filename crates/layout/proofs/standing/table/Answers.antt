@@ -1,7 +1,6 @@
 -- `layout::standing::table`: by the room. Assumes nothing.
 use mathlib.Core.Path.{sym, ◌∙◌}
 use mathlib.Core.Bool.{cond}
-use borrow.Author.Rules.{rules}
 use Rattle.table.specs.With.{no_table}
 use Rattle.layout.specs.Standing.{table_at, table_in}
 use Rattle.layout.proofs.standing.table.Goals as goal

@@ -1,6 +1,5 @@
 -- `layout::standing::table_at`: each field is what stands at its place. Assumes nothing.
 use Rattle.table.specs.With.{table_of}
-use borrow.Author.Rules.{rules}
 use Rattle.layout.proofs.standing.table_at.Goals as goal
 
 pub returns : goal.returns

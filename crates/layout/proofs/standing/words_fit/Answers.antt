@@ -1,6 +1,5 @@
 -- `layout::standing::words_fit`: each test in its place. Assumes nothing.
 use mathlib.Core.Bool.{◌&&◌}
-use borrow.Author.Rules.{rules}
 use Rattle.layout.specs.Standing.{words_fit}
 use Rattle.layout.proofs.standing.words_fit.Goals as goal
 

@@ -1,6 +1,5 @@
 -- `layout::words::flag_at`: the word there is 1, or not. Assumes nothing.
 use lib.Dec.{eqb}
-use borrow.Author.Rules.{rules}
 use Rattle.layout.proofs.words.flag_at.Goals as goal
 
 pub returns : goal.returns

@@ -2,7 +2,6 @@
 use mathlib.Core.Path.{sym}
 use lib.ListN.{get_or-eq_default}
 use lib.Ieee.{nan, of_bits, div}
-use borrow.Author.Rules.{rules}
 use Rattle.layout.proofs.words.float_at.Goals as goal
 
 pub returns : goal.returns

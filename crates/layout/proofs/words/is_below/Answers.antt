@@ -1,6 +1,5 @@
 -- `layout::words::is_below`: the word there is below it, or not. Assumes nothing.
 use lib.Dec.{ltb}
-use borrow.Author.Rules.{rules}
 use Rattle.layout.proofs.words.is_below.Goals as goal
 
 pub returns : goal.returns

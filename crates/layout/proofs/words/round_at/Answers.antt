@@ -1,6 +1,5 @@
 -- `layout::words::round_at`: the round of the word there. Assumes nothing.
 use mathlib.Core.Path.{ap, ◌∙◌}
-use borrow.Author.Rules.{rules}
 use Rattle.layout.specs.Words.{round_of}
 use Rattle.layout.proofs.words.round_at.Goals as goal
 

@@ -1,6 +1,5 @@
 -- `layout::words::sixteen_at`: a copy to the front. Assumes nothing.
 use lib.Ieee.{of_bits}
-use borrow.Author.Rules.{rules}
 use Rattle.layout.proofs.words.sixteen_at.Goals as goal
 
 pub returns : goal.returns

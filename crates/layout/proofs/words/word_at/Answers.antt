@@ -1,7 +1,6 @@
 -- `layout::words::word_at`: a place that is not there is 0. Assumes nothing.
 use mathlib.Core.Path.{sym}
 use lib.ListN.{get_or-eq_default}
-use borrow.Author.Rules.{rules}
 use Rattle.layout.proofs.words.word_at.Goals as goal
 
 pub returns : goal.returns

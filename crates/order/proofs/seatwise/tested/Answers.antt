@@ -1,5 +1,4 @@
 -- `order::seatwise::tested`: the loop has tested the seats below i. Assumes nothing.
-use Prim.Native.Nat.{◌≤◌, ◌-◌}
 use native.Mathlib.Nat.{le_antisymm}
 use native.Mathlib.Omega.{arith}
 use mathlib.Core.Path.{refl}
@@ -7,7 +6,6 @@ use mathlib.Core.Bool.{not, ◌||◌}
 use lib.Dec.{leb}
 use Rattle.commons.specs.Folds.{all_to}
 use Rattle.commons.proofs.Folds.{all-next}
-use Rattle.order.specs.Seatwise.{Seatwise}
 use Rattle.order.proofs.seatwise.tested.Goals as goal
 
 pub loop-i-init : goal.loop-i-init

@@ -1,12 +1,5 @@
 -- `order::seatwise::tested`: the loop has tested the seats below i. Assumes nothing.
 use Prim.Native.Nat.{◌≤◌, ◌-◌}
-use native.Mathlib.Nat.{le_antisymm}
-use native.Mathlib.Omega.{arith}
-use mathlib.Core.Path.{refl}
-use mathlib.Core.Bool.{not, ◌||◌}
-use lib.Dec.{leb}
-use Rattle.commons.specs.Folds.{all_to}
-use Rattle.commons.proofs.Folds.{all-next}
 use Rattle.order.specs.Seatwise.{Seatwise}
 use Rattle.order.proofs.seatwise.tested.Given as goal
 

@@ -1,5 +1,4 @@
 -- `parts::float_calls::peatcloak_is_near_zero`: the test of floats, as a word. Assumes nothing.
-use borrow.Author.Rules.{rules}
 use Rattle.parts.proofs.float_calls.peatcloak_is_near_zero.Goals as goal
 
 pub returns : goal.returns

@@ -1,5 +1,4 @@
 -- `parts::float_calls::peatcloak_max`: the larger of floats, in this order. Assumes nothing.
-use borrow.Author.Rules.{rules}
 use Rattle.parts.proofs.float_calls.peatcloak_max.Goals as goal
 
 pub returns : goal.returns

@@ -1,5 +1,4 @@
 -- `parts::float_calls::peatcloak_tol`: the tolerance of floats. Assumes nothing.
-use borrow.Author.Rules.{rules}
 use Rattle.parts.proofs.float_calls.peatcloak_tol.Goals as goal
 
 pub returns : goal.returns

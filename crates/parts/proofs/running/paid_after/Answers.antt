@@ -1,5 +1,4 @@
 -- `parts::running::paid_after`: by the answer. Assumes nothing.
-use borrow.Author.Rules.{rules}
 use Rattle.parts.proofs.running.paid_after.Goals as goal
 
 pub returns-in-Paid : goal.returns-in-Paid

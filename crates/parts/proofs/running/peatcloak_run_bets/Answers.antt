@@ -1,6 +1,5 @@
 -- `parts::running::peatcloak_run_bets`: the run of the table that stands there, laid where it is sound. Assumes nothing.
 use Rattle.parts.proofs.LawsRun.{run_done, run_nothing}
-use borrow.Author.Rules.{rules}
 use Rattle.parts.proofs.running.peatcloak_run_bets.Goals as goal
 
 pub returns-then-stands-is_sound : goal.returns-then-stands-is_sound

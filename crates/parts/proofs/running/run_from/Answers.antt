@@ -1,12 +1,9 @@
 -- `parts::running::run_from`: after k turns the first k bets are made. Assumes nothing.
 use lib.Ieee.{of_bits}
-use lib.ListN.{length}
 use mathlib.Core.Path.{refl}
 use native.Mathlib.Omega.{arith}
-use Prim.Native.Nat.{◌≤◌, ◌-◌}
-use borrow.Author.Rules.{rules}
 use Rattle.parts.specs.Run.{ran_to}
-use Rattle.parts.proofs.LawsRun.{Ran, taken-most, begins, goes_on, ends}
+use Rattle.parts.proofs.LawsRun.{taken-most, begins, goes_on, ends}
 use Rattle.parts.proofs.running.run_from.Goals as goal
 
 pub loop-k-init : goal.loop-k-init

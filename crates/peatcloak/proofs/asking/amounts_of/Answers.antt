@@ -1,6 +1,5 @@
 -- `peatcloak::asking::amounts_of`: query by query. Assumes nothing.
 use mathlib.Core.List.{[], ◌∷◌}
-use borrow.Author.Rules.{rules}
 use Rattle.peatcloak.proofs.asking.amounts_of.Goals as goal
 
 pub returns : goal.returns

@@ -1,7 +1,6 @@
 -- `peatcloak::asking::answers_of`: query by query. Assumes nothing.
 use mathlib.Core.List.{[], ◌∷◌}
 use mathlib.Core.Path.{ap, ◌∙◌}
-use borrow.Author.Rules.{rules}
 use Rattle.layout.specs.Words.{word_of, flag_of}
 use Rattle.peatcloak.proofs.asking.answers_of.Goals as goal
 

@@ -2,7 +2,6 @@
 use mathlib.Core.Path.{sym, ◌∙◌}
 use native.Mathlib.Omega.{arith}
 use Rattle.peatcloak.proofs.LawsAsked.{one_place, rewarded, unrewarded, no_reward}
-use borrow.Author.Rules.{rules}
 use Rattle.peatcloak.proofs.asking.peatcloak_player_reward.Goals as goal
 
 pub bounds-out-0 : goal.bounds-out-0

@@ -1,6 +1,5 @@
 -- `peatcloak::asking::peatcloak_queries`: what the table that stands there answers. Assumes nothing.
 use Rattle.peatcloak.proofs.LawsAsked.{told-all, told_none}
-use borrow.Author.Rules.{rules}
 use Rattle.peatcloak.proofs.asking.peatcloak_queries.Goals as goal
 
 pub returns-then-room-stands : goal.returns-then-room-stands

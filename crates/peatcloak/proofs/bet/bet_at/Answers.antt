@@ -2,7 +2,6 @@
 use mathlib.Core.Path.{ap, ◌∙◌}
 use Rattle.rounds.specs.declared.paying.Payer.{Payer}
 use Rattle.peatcloak.proofs.LawsBet.{numbers-there, seat-low, is-refused, is-paid}
-use borrow.Author.Rules.{rules}
 use Rattle.peatcloak.proofs.bet.bet_at.Goals as goal
 
 pub payer_at-p-requires : goal.payer_at-p-requires

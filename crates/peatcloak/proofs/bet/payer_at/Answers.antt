@@ -1,7 +1,6 @@
 -- `peatcloak::bet::payer_at`: each field is what stands at its place. Assumes nothing.
 use mathlib.Core.Path.{◌∙◌}
 use Prim.Native.Nat.{◌+◌}
-use borrow.Author.Rules.{rules}
 use Rattle.rounds.specs.Paying.{payer_of, stake_of}
 use Rattle.layout.specs.Places.{TOTAL_POT, ROUND_BET, MIN_RAISE, STACKS, HAND_BETS, ROUND_BETS}
 use Rattle.layout.specs.Words.{float_at}

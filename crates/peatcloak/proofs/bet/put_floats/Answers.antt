@@ -2,7 +2,6 @@
 use lib.ListN.{length-set}
 use mathlib.Core.Path.{refl}
 use native.Mathlib.Omega.{arith}
-use borrow.Author.Rules.{rules}
 use Rattle.peatcloak.specs.Put.{floats_with}
 use Rattle.peatcloak.proofs.bet.put_floats.Goals as goal
 

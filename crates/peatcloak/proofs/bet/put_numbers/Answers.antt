@@ -3,7 +3,6 @@ use lib.ListN.{set, length-set}
 use mathlib.Core.Path.{◌≡◌}
 use native.Mathlib.Omega.{arith}
 use Prim.Native.Nat.{ℕ, ◌<◌}
-use borrow.Author.Rules.{rules}
 use Rattle.layout.specs.Places.{PLAYER_ACTIVE, PLAYER_ALL_IN, NEEDS_ACTION, TO_ACT_IDX, TOTAL_BET_COUNT, TOTAL_RAISE_COUNT, FORCED_BET_COUNT, PASSED}
 use Rattle.peatcloak.specs.Put.{numbers_with}
 -- a word that is a number, and is below k

@@ -4,7 +4,6 @@ use mathlib.Core.Bool.{true, false}
 use Rattle.bets.specs.Bet.{bet_size, size_for}
 use Rattle.table.specs.Pay.{verdict_of}
 use Rattle.table.proofs.Bet.{verdict-room}
-use borrow.Author.Rules.{rules}
 use Rattle.peatcloak.proofs.bet.verdict_at.Goals as goal
 
 pub returns-then-is_forced : goal.returns-then-is_forced

@@ -1,5 +1,4 @@
 -- `peatcloak::building::amounts_of`: the list as an array of 16. Assumes nothing.
-use borrow.Author.Rules.{rules}
 use Rattle.peatcloak.proofs.building.amounts_of.Goals as goal
 
 pub returns : goal.returns

@@ -1,5 +1,4 @@
 -- `peatcloak::building::board_of`: the cards as the builder keeps them. Assumes nothing.
-use borrow.Author.Rules.{rules}
 use Rattle.peatcloak.proofs.building.board_of.Goals as goal
 
 pub returns : goal.returns

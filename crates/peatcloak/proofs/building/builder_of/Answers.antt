@@ -1,6 +1,5 @@
 -- `peatcloak::building::builder_of`: each field is what the lists tell of it. Assumes nothing.
 use mathlib.Core.Path.{ap, ◌∙◌}
-use borrow.Author.Rules.{rules}
 use Rattle.builder.specs.Setters.{builder_of}
 use Rattle.layout.specs.declared.standing.DataStanding.{DataStanding}
 use Rattle.peatcloak.specs.Building.{amount_given, number_given, amounts_given, board_given}

@@ -1,6 +1,5 @@
 -- `peatcloak::building::given_fit`: each test in its place. Assumes nothing.
 use mathlib.Core.Bool.{◌&&◌}
-use borrow.Author.Rules.{rules}
 use Rattle.peatcloak.specs.Building.{given_fit}
 use Rattle.peatcloak.proofs.building.given_fit.Goals as goal
 

@@ -1,7 +1,6 @@
 -- `peatcloak::building::is_told`: the room, and each test in its place. Assumes nothing.
 use mathlib.Core.Bool.{◌&&◌, ◌||◌, not}
 use lib.ListN.{length}
-use borrow.Author.Rules.{rules}
 use Rattle.peatcloak.specs.Building.{room_to_build}
 use Rattle.peatcloak.proofs.building.is_told.Goals as goal
 

@@ -2,7 +2,6 @@
 use mathlib.Core.Path.{sym, ap, ◌∙◌}
 use Rattle.builder.specs.Build.{build_of}
 use Rattle.peatcloak.proofs.LawsBuild.{build-done, build-nothing}
-use borrow.Author.Rules.{rules}
 use Rattle.peatcloak.proofs.building.peatcloak_build.Goals as goal
 
 pub returns-then-is_told : goal.returns-then-is_told

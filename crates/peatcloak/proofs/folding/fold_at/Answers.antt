@@ -2,7 +2,6 @@
 use lib.Ieee.{of_bits}
 use lib.ListN.{length-set}
 use native.Mathlib.Omega.{arith}
-use borrow.Author.Rules.{rules}
 use Rattle.peatcloak.proofs.LawsFold.{fold-stored}
 use Rattle.peatcloak.proofs.folding.fold_at.Goals as goal
 

@@ -1,6 +1,5 @@
 -- `peatcloak::given_added::fits`: each test in its place. Assumes nothing.
 use mathlib.Core.Bool.{◌&&◌}
-use borrow.Author.Rules.{rules}
 use Rattle.peatcloak.proofs.given_added.fits.Goals as goal
 
 pub returns : goal.returns

@@ -1,6 +1,5 @@
 -- `peatcloak::given_added::key_of`: by whether one is given. Assumes nothing.
 use mathlib.Core.Path.{sym, ◌∙◌}
-use borrow.Author.Rules.{rules}
 use Rattle.peatcloak.specs.GivenAdded.{key_given}
 use Rattle.peatcloak.proofs.given_added.key_of.Goals as goal
 

@@ -1,5 +1,4 @@
 -- `peatcloak::given_added::of`: the key, where one is given. Assumes nothing.
-use borrow.Author.Rules.{rules}
 use Rattle.table.specs.Added.{added_of}
 use Rattle.peatcloak.proofs.given_added.of.Goals as goal
 

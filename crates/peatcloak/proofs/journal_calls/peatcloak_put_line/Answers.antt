@@ -1,6 +1,5 @@
 -- `peatcloak::journal_calls::peatcloak_put_line`: where out has a place, the line laid and told. Assumes nothing.
 use Rattle.peatcloak.proofs.LawsWriting.{put-done, put-nothing}
-use borrow.Author.Rules.{rules}
 use Rattle.peatcloak.proofs.journal_calls.peatcloak_put_line.Goals as goal
 
 pub returns-then-out-ge1 : goal.returns-then-out-ge1

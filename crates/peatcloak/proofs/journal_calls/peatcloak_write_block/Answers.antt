@@ -1,6 +1,5 @@
 -- `peatcloak::journal_calls::peatcloak_write_block`: where out has a place and index and title are in range, the block laid and told. Assumes nothing.
 use Rattle.peatcloak.proofs.LawsWriting.{block-done, block-nothing}
-use borrow.Author.Rules.{rules}
 use Rattle.peatcloak.proofs.journal_calls.peatcloak_write_block.Goals as goal
 
 pub returns-then-out-index : goal.returns-then-out-index

@@ -1,6 +1,5 @@
 -- `peatcloak::journal_calls::peatcloak_write_hand`: where out has a place and the title is in range, the hand written and told. Assumes nothing.
 use Rattle.peatcloak.proofs.LawsWriting.{hand-done, hand-nothing}
-use borrow.Author.Rules.{rules}
 use Rattle.peatcloak.proofs.journal_calls.peatcloak_write_hand.Goals as goal
 
 pub returns-then-out-title_fits : goal.returns-then-out-title_fits

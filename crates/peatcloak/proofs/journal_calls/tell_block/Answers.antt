@@ -1,7 +1,6 @@
 -- `peatcloak::journal_calls::tell_block`: by what became of the block. Assumes nothing.
 use mathlib.Core.Path.{refl}
 use Rattle.peatcloak.specs.Writing.{block_number, block_out}
-use borrow.Author.Rules.{rules}
 use Rattle.peatcloak.proofs.journal_calls.tell_block.Goals as goal
 
 pub returns-in-Denied : goal.returns-in-Denied

@@ -1,7 +1,6 @@
 -- `peatcloak::journal_calls::tell_hand`: by what became of the hand. Assumes nothing.
 use mathlib.Core.Path.{refl}
 use Rattle.peatcloak.specs.Writing.{hand_number, hand_out}
-use borrow.Author.Rules.{rules}
 use Rattle.peatcloak.proofs.journal_calls.tell_hand.Goals as goal
 
 pub returns-in-Denied : goal.returns-in-Denied

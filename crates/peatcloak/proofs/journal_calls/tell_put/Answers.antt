@@ -1,7 +1,6 @@
 -- `peatcloak::journal_calls::tell_put`: by what became of the line. Assumes nothing.
 use mathlib.Core.Path.{refl}
 use Rattle.peatcloak.specs.Writing.{put_number, put_out}
-use borrow.Author.Rules.{rules}
 use Rattle.peatcloak.proofs.journal_calls.tell_put.Goals as goal
 
 pub returns-in-Denied : goal.returns-in-Denied

@@ -1,6 +1,5 @@
 -- `peatcloak::journal_reads::peatcloak_line_at`: where both lists are long enough, the line is told. Assumes nothing.
 use Rattle.peatcloak.proofs.LawsReading.{line-told, line_untold}
-use borrow.Author.Rules.{rules}
 use Rattle.peatcloak.proofs.journal_reads.peatcloak_line_at.Goals as goal
 
 pub returns-then-line-numbers : goal.returns-then-line-numbers

@@ -1,6 +1,5 @@
 -- `peatcloak::journal_reads::peatcloak_read_block`: where head is long enough, what was read is told. Assumes nothing.
 use Rattle.peatcloak.proofs.LawsReading.{block-told, block_untold}
-use borrow.Author.Rules.{rules}
 use Rattle.peatcloak.proofs.journal_reads.peatcloak_read_block.Goals as goal
 
 pub returns-then-head-ge7 : goal.returns-then-head-ge7

@@ -1,6 +1,5 @@
 -- `peatcloak::journal_reads::peatcloak_read_hand`: where head is long enough, what was read is told. Assumes nothing.
 use Rattle.peatcloak.proofs.LawsReading.{hand-told, hand_untold}
-use borrow.Author.Rules.{rules}
 use Rattle.peatcloak.proofs.journal_reads.peatcloak_read_hand.Goals as goal
 
 pub returns-then-head-ge6 : goal.returns-then-head-ge6

@@ -1,7 +1,6 @@
 -- `peatcloak::journal_reads::tell_block`: by whether it was read. Assumes nothing.
 use mathlib.Core.Path.{refl}
 use Rattle.peatcloak.specs.Reading.{block_read_number, block_read_told}
-use borrow.Author.Rules.{rules}
 use Rattle.peatcloak.proofs.journal_reads.tell_block.Goals as goal
 
 pub returns-in-Refused : goal.returns-in-Refused

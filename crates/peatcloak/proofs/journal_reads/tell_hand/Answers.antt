@@ -1,7 +1,6 @@
 -- `peatcloak::journal_reads::tell_hand`: by whether it was read. Assumes nothing.
 use mathlib.Core.Path.{refl}
 use Rattle.peatcloak.specs.Reading.{hand_read_number, hand_read_told}
-use borrow.Author.Rules.{rules}
 use Rattle.peatcloak.proofs.journal_reads.tell_hand.Goals as goal
 
 pub returns-in-Refused : goal.returns-in-Refused

@@ -2,7 +2,6 @@
 use native.Mathlib.Omega.{arith}
 use lib.Ieee.{of_bits}
 use Rattle.peatcloak.proofs.LawsReplayed.{replay_done, replay_nothing}
-use borrow.Author.Rules.{rules}
 use Rattle.peatcloak.proofs.journal_replay.peatcloak_replay_hand.Goals as goal
 
 pub returns-then-out-room : goal.returns-then-out-room

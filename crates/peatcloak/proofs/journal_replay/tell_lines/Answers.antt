@@ -1,7 +1,6 @@
 -- `peatcloak::journal_replay::tell_lines`: nothing is told where the number is 27. Assumes nothing.
 use borrow.Author.Tests.{eq-eqb, ne_eqb}
 use Rattle.peatcloak.specs.Replaying.{lines_told}
-use borrow.Author.Rules.{rules}
 use Rattle.peatcloak.proofs.journal_replay.tell_lines.Goals as goal
 
 pub returns-then-number-ne27 : goal.returns-then-number-ne27

@@ -1,7 +1,5 @@
 -- `peatcloak::journal_words::block_words`: each word in its place. Assumes nothing.
-use mathlib.Core.List.{[], ◌∷◌}
 use Rattle.peatcloak.specs.Reading.{block_words}
-use borrow.Author.Rules.{rules}
 use Rattle.peatcloak.proofs.journal_words.block_words.Goals as goal
 
 pub returns : goal.returns

@@ -1,6 +1,5 @@
 -- `peatcloak::journal_words::hand_words`: each word in its place. Assumes nothing.
 use Rattle.peatcloak.specs.Reading.{hand_words}
-use borrow.Author.Rules.{rules}
 use Rattle.peatcloak.proofs.journal_words.hand_words.Goals as goal
 
 pub returns : goal.returns

@@ -1,7 +1,6 @@
 -- `peatcloak::journal_words::letter_of`: by whether it is a byte. Assumes nothing.
 use borrow.Author.Tests.{lt-ltb, le-ltb}
 use Rattle.peatcloak.specs.Writing.{letter_of}
-use borrow.Author.Rules.{rules}
 use Rattle.peatcloak.proofs.journal_words.letter_of.Goals as goal
 
 pub returns-then-letter-lt256 : goal.returns-then-letter-lt256

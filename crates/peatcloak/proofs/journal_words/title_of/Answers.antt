@@ -1,6 +1,5 @@
 -- `peatcloak::journal_words::title_of`: each word in its place. Assumes nothing.
 use Rattle.peatcloak.specs.Writing.{title_in}
-use borrow.Author.Rules.{rules}
 use Rattle.peatcloak.proofs.journal_words.title_of.Goals as goal
 
 pub returns : goal.returns

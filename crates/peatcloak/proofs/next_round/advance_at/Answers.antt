@@ -2,7 +2,6 @@
 use native.Mathlib.Omega.{arith}
 use lib.Ieee.{of_bits}
 use Rattle.peatcloak.proofs.LawsNextRound.{round-low, seats-few, is-over, is-next}
-use borrow.Author.Rules.{rules}
 use Rattle.peatcloak.proofs.next_round.advance_at.Goals as goal
 
 pub returns-then-round-eq11 : goal.returns-then-round-eq11

@@ -1,11 +1,9 @@
 -- `peatcloak::next_round::clear_bets`: after k turns the first k places are laid. Assumes nothing.
-use Prim.Native.Nat.{◌≤◌, ◌-◌}
 use native.Mathlib.Omega.{arith}
-use mathlib.Core.Path.{◌≡◌, refl}
+use mathlib.Core.Path.{refl}
 use lib.Ieee.{of_bits}
-use lib.ListN.{length, length-set}
+use lib.ListN.{length-set}
 use Rattle.commons.proofs.Filled.{laid_none, laid_next, laid_end}
-use Rattle.peatcloak.proofs.LawsNextRound.{bets_cleared}
 use Rattle.peatcloak.proofs.next_round.clear_bets.Goals as goal
 
 pub loop-k-init : goal.loop-k-init

@@ -1,10 +1,7 @@
 -- `peatcloak::next_round::clear_bets`: after k turns the first k places are laid. Assumes nothing.
 use Prim.Native.Nat.{◌≤◌, ◌-◌}
-use native.Mathlib.Omega.{arith}
-use mathlib.Core.Path.{◌≡◌, refl}
-use lib.Ieee.{of_bits}
-use lib.ListN.{length, length-set}
-use Rattle.commons.proofs.Filled.{laid_none, laid_next, laid_end}
+use mathlib.Core.Path.{◌≡◌}
+use lib.ListN.{length}
 use Rattle.peatcloak.proofs.LawsNextRound.{bets_cleared}
 use Rattle.peatcloak.proofs.next_round.clear_bets.Given as goal
 

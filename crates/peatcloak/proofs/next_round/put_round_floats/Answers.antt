@@ -3,7 +3,6 @@ use mathlib.Core.Path.{◌∙◌}
 use lib.Ieee.{of_bits}
 use lib.ListN.{length-set}
 use native.Mathlib.Omega.{arith}
-use borrow.Author.Rules.{rules}
 use Rattle.peatcloak.proofs.next_round.put_round_floats.Goals as goal
 
 pub bounds-floats-5 : goal.bounds-floats-5

@@ -3,7 +3,6 @@ use Prim.Native.Nat.{◌+◌}
 use native.Mathlib.Omega.{arith}
 use lib.ListN.{set, length-set}
 use Rattle.layout.specs.Places.{ROUND, ROUND_BEFORE, STARTING_PLAYER_ACTIVE, NEEDS_ACTION, TO_ACT_IDX, ROUND_LENGTH, TOTAL_BET_COUNT, TOTAL_RAISE_COUNT, FORCED_BET_COUNT, PASSED}
-use borrow.Author.Rules.{rules}
 use Rattle.peatcloak.proofs.next_round.put_round_numbers.Goals as goal
 
 pub bounds-numbers-3 : goal.bounds-numbers-3

@@ -3,7 +3,6 @@ use lib.Ieee.{of_bits}
 use Rattle.floats.specs.Helpers.{zerof}
 use Rattle.layout.specs.Outcome.{outcome}
 use Rattle.peatcloak.proofs.LawsCalls.{same_after}
-use borrow.Author.Rules.{rules}
 use Rattle.peatcloak.proofs.outcomes.lay_step.Goals as goal
 
 pub returns : goal.returns

@@ -1,5 +1,4 @@
 -- `peatcloak::playing::peatcloak_play`: the console's, from its start. Assumes nothing.
-use borrow.Author.Rules.{rules}
 use Rattle.peatcloak.proofs.LawsPlayed.{from_start}
 use Rattle.peatcloak.proofs.playing.peatcloak_play.Goals as goal
 

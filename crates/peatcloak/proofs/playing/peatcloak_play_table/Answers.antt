@@ -3,7 +3,6 @@ use mathlib.Core.Path.{◌∙◌}
 use mathlib.Core.Bool.{not}
 use lib.Dec.{leb}
 use lib.ListN.{length}
-use borrow.Author.Rules.{rules}
 use Rattle.refusals.specs.declared.Refusal.TheVariants.{Added}
 use Rattle.refusals.specs.declared.AddedError.TheVariants.{BadRecord, BadLine, ScriptTooLong}
 use Rattle.refusals.specs.declared.Verdict.TheVariants.{Stands}

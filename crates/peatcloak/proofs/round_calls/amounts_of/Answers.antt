@@ -1,5 +1,4 @@
 -- `peatcloak::round_calls::amounts_of`: the amount of the answer. Assumes nothing.
-use borrow.Author.Rules.{rules}
 use Rattle.peatcloak.proofs.round_calls.amounts_of.Goals as goal
 
 pub returns : goal.returns

@@ -1,7 +1,6 @@
 -- `peatcloak::round_calls::answers_of`: query by query. Assumes nothing.
 use mathlib.Core.List.{[], ◌∷◌}
 use mathlib.Core.Path.{ap, ◌∙◌}
-use borrow.Author.Rules.{rules}
 use Rattle.peatcloak.proofs.LawsSeats.{count_word}
 use Rattle.layout.specs.Words.{word_of, flag_of}
 use Rattle.rounds.specs.Steps.{amount_number}

@@ -1,6 +1,5 @@
 -- `peatcloak::round_calls::lay_round`: by the number. Assumes nothing.
 use mathlib.Core.Path.{◌∙◌}
-use borrow.Author.Rules.{rules}
 use Rattle.peatcloak.proofs.LawsRounds.{step-laid, step_kept}
 use Rattle.peatcloak.proofs.round_calls.lay_round.Goals as goal
 

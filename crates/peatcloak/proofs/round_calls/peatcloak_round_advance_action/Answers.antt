@@ -1,5 +1,4 @@
 -- `peatcloak::round_calls::peatcloak_round_advance_action`: the step of the round data that was read, laid. Assumes nothing.
-use borrow.Author.Rules.{rules}
 use Rattle.peatcloak.proofs.LawsDataFits.{advance-fits}
 use Rattle.peatcloak.proofs.LawsRounds.{data_stepped, data_nothing}
 use Rattle.rounds.specs.Steps.{advance_of}

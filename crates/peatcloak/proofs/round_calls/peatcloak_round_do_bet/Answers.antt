@@ -1,7 +1,6 @@
 -- `peatcloak::round_calls::peatcloak_round_do_bet`: the step of the round data that was read, laid. Assumes nothing.
 use lib.Dec.{eqb}
 use mathlib.Core.Bool.{not}
-use borrow.Author.Rules.{rules}
 use Rattle.peatcloak.proofs.LawsDataFits.{bet-fits}
 use Rattle.peatcloak.proofs.LawsRounds.{data_stepped, data_nothing}
 use Rattle.rounds.specs.Steps.{bet_of}

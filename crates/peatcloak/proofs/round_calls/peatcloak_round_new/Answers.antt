@@ -1,6 +1,5 @@
 -- `peatcloak::round_calls::peatcloak_round_new`: the new round data laid where there is room. Assumes nothing.
 use mathlib.Core.Path.{sym, ◌∙◌}
-use borrow.Author.Rules.{rules}
 use Rattle.seats.specs.Set.{of_bits}
 use Rattle.rounds.specs.Steps.{new_of}
 use Rattle.peatcloak.proofs.LawsDataFits.{new-fits}

@@ -1,5 +1,4 @@
 -- `peatcloak::round_calls::peatcloak_round_queries`: what the round data that was read answers. Assumes nothing.
-use borrow.Author.Rules.{rules}
 use Rattle.peatcloak.proofs.LawsRounds.{told-all, told_none}
 use Rattle.peatcloak.proofs.round_calls.peatcloak_round_queries.Goals as goal
 

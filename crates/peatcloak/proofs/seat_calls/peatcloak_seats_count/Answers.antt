@@ -1,5 +1,4 @@
 -- `peatcloak::seat_calls::peatcloak_seats_count`: at most sixteen, so nothing is cut. Assumes nothing.
-use borrow.Author.Rules.{rules}
 use Rattle.peatcloak.proofs.LawsSeats.{count_word}
 use Rattle.peatcloak.proofs.seat_calls.peatcloak_seats_count.Goals as goal
 

@@ -1,5 +1,4 @@
 -- `peatcloak::seat_calls::peatcloak_seats_empty`: the test of the set, as a word. Assumes nothing.
-use borrow.Author.Rules.{rules}
 use Rattle.peatcloak.proofs.seat_calls.peatcloak_seats_empty.Goals as goal
 
 pub returns : goal.returns

@@ -1,5 +1,4 @@
 -- `peatcloak::seat_calls::peatcloak_seats_next`: at most sixteen, so nothing is cut. Assumes nothing.
-use borrow.Author.Rules.{rules}
 use Rattle.peatcloak.proofs.LawsSeats.{next-seat, no-seat}
 use Rattle.seats.specs.Set.{of_bits}
 use Rattle.peatcloak.proofs.seat_calls.peatcloak_seats_next.Goals as goal

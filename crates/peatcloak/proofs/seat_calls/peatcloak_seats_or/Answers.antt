@@ -1,5 +1,4 @@
 -- `peatcloak::seat_calls::peatcloak_seats_or`: the number of the set that is made. Assumes nothing.
-use borrow.Author.Rules.{rules}
 use Rattle.peatcloak.proofs.seat_calls.peatcloak_seats_or.Goals as goal
 
 pub returns : goal.returns

@@ -1,6 +1,5 @@
 -- `peatcloak::seat_calls::seat_word`: by the answer. Assumes nothing.
 use native.Mathlib.Omega.{arith}
-use borrow.Author.Rules.{rules}
 use Rattle.peatcloak.proofs.seat_calls.seat_word.Goals as goal
 
 pub returns-in-Is : goal.returns-in-Is

@@ -1,5 +1,4 @@
 -- `peatcloak::seat_calls::set_word`: by the answer. Assumes nothing.
-use borrow.Author.Rules.{rules}
 use Rattle.peatcloak.proofs.seat_calls.set_word.Goals as goal
 
 pub returns-in-Made : goal.returns-in-Made

@@ -1,13 +1,8 @@
 -- `peatcloak::settling::lay_rewards`: after i turns the first i are laid. Assumes nothing.
-use mir.Syntax.{w32}
-use mir.Val.{to_z, of_z}
-use lib.IntN.{pos}
 use Rattle.commons.proofs.Filled.{filled_none, filled_next, filled-end}
-use Rattle.commons.specs.Filled.{filled}
-use mathlib.Core.Path.{◌≡◌, refl, sym, ◌∙◌}
-use lib.ListN.{length, length-set, get_or}
+use mathlib.Core.Path.{refl}
+use lib.ListN.{length-set}
 use native.Mathlib.Omega.{arith}
-use Prim.Native.Nat.{◌≤◌, ◌-◌}
 use Rattle.peatcloak.proofs.settling.lay_rewards.Goals as goal
 
 pub loop-i-init : goal.loop-i-init

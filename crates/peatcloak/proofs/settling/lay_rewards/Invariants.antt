@@ -2,11 +2,9 @@
 use mir.Syntax.{w32}
 use mir.Val.{to_z, of_z}
 use lib.IntN.{pos}
-use Rattle.commons.proofs.Filled.{filled_none, filled_next, filled-end}
 use Rattle.commons.specs.Filled.{filled}
-use mathlib.Core.Path.{◌≡◌, refl, sym, ◌∙◌}
-use lib.ListN.{length, length-set, get_or}
-use native.Mathlib.Omega.{arith}
+use mathlib.Core.Path.{◌≡◌}
+use lib.ListN.{length, get_or}
 use Prim.Native.Nat.{◌≤◌, ◌-◌}
 use Rattle.peatcloak.proofs.settling.lay_rewards.Given as goal
 

@@ -1,6 +1,5 @@
 -- `peatcloak::settling::peatcloak_settle`: the settlement of the table that stands there, laid, and its rewards where it is accepted. Assumes nothing.
 use Rattle.peatcloak.proofs.LawsSettled.{rewards-room, settled-out, not-settled, settles-nothing}
-use borrow.Author.Rules.{rules}
 use Rattle.peatcloak.proofs.settling.peatcloak_settle.Goals as goal
 
 pub lay_rewards-requires : goal.lay_rewards-requires

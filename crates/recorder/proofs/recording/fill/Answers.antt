@@ -1,11 +1,9 @@
 -- `recorder::recording::fill`: after some lines `Filling` holds, and the place goes up with each. Assumes nothing.
-use Prim.Native.Nat.{◌-◌}
 use native.Mathlib.Omega.{arith}
 use mathlib.Core.Path.{sym, ◌∙◌}
 use borrow.Author.Rules.{rules}
-use lib.ListN.{length}
 use Rattle.recorder.proofs.LawsTaking.{line, goes-up}
-use Rattle.recorder.proofs.LawsFilling.{Filling, begins, fills_on, closes, ends}
+use Rattle.recorder.proofs.LawsFilling.{begins, fills_on, closes, ends}
 use Rattle.recorder.proofs.recording.fill.Goals as goal
 
 pub loop-at-init : goal.loop-at-init

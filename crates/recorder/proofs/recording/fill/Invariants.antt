@@ -1,11 +1,7 @@
 -- `recorder::recording::fill`: after some lines `Filling` holds, and the place goes up with each. Assumes nothing.
 use Prim.Native.Nat.{◌-◌}
-use native.Mathlib.Omega.{arith}
-use mathlib.Core.Path.{sym, ◌∙◌}
-use borrow.Author.Rules.{rules}
 use lib.ListN.{length}
-use Rattle.recorder.proofs.LawsTaking.{line, goes-up}
-use Rattle.recorder.proofs.LawsFilling.{Filling, begins, fills_on, closes, ends}
+use Rattle.recorder.proofs.LawsFilling.{Filling}
 use Rattle.recorder.proofs.recording.fill.Given as goal
 
 abbrev pub invariant-loop-at : goal.invariant-loop-at

@@ -1,5 +1,4 @@
 -- `recorder::recording::lay`: the line is put, or nothing changes. Assumes nothing.
-use borrow.Author.Rules.{rules}
 use Rattle.recorder.proofs.LawsLaying.{laid_so, not-laid}
 use Rattle.recorder.proofs.recording.lay.Goals as goal
 

@@ -1,5 +1,4 @@
 -- `recorder::recording::next_hand`: the next `t` is found, or the script ends; then its line and those that follow are laid. Assumes nothing.
-use borrow.Author.Rules.{rules}
 use Rattle.recorder.proofs.LawsTaken.{none_found, hand-found}
 use Rattle.recorder.proofs.recording.next_hand.Goals as goal
 

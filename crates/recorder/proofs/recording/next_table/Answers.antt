@@ -1,10 +1,6 @@
 -- `recorder::recording::next_table`: the next accepted `t` is the same from each place that is passed, and the place goes up with each line. Assumes nothing.
-use Prim.Native.Nat.{◌-◌}
 use native.Mathlib.Omega.{arith}
-use mathlib.Core.Path.{◌≡◌, refl, sym, ◌∙◌}
-use borrow.Author.Rules.{rules}
-use lib.ListN.{length}
-use Rattle.recorder.specs.Taking.{next_table}
+use mathlib.Core.Path.{refl, sym, ◌∙◌}
 use Rattle.recorder.proofs.LawsTaking.{at-end, line, goes-up, stops-here, goes_on}
 use Rattle.recorder.proofs.recording.next_table.Goals as goal
 

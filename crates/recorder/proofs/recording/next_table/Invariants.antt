@@ -1,11 +1,8 @@
 -- `recorder::recording::next_table`: the next accepted `t` is the same from each place that is passed, and the place goes up with each line. Assumes nothing.
 use Prim.Native.Nat.{◌-◌}
-use native.Mathlib.Omega.{arith}
-use mathlib.Core.Path.{◌≡◌, refl, sym, ◌∙◌}
-use borrow.Author.Rules.{rules}
+use mathlib.Core.Path.{◌≡◌}
 use lib.ListN.{length}
 use Rattle.recorder.specs.Taking.{next_table}
-use Rattle.recorder.proofs.LawsTaking.{at-end, line, goes-up, stops-here, goes_on}
 use Rattle.recorder.proofs.recording.next_table.Given as goal
 
 abbrev pub invariant-loop-at : goal.invariant-loop-at

@@ -1,6 +1,5 @@
 -- `recorder::recording::put`: by the answer of the journal's `put_line`. Assumes nothing.
 use native.Mathlib.Omega.{arith}
-use borrow.Author.Rules.{rules}
 use Rattle.recorder.specs.Laying.{after_put}
 use Rattle.recorder.proofs.LawsLaying.{used-counted, used_takes, put_so}
 use Rattle.recorder.proofs.recording.put.Goals as goal

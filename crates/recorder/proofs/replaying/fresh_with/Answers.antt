@@ -1,6 +1,5 @@
 -- `recorder::replaying::fresh_with`: no table is the record of zeros. Assumes nothing.
 use mathlib.Core.Path.{refl}
-use borrow.Author.Rules.{rules}
 use Rattle.recorder.proofs.replaying.fresh_with.Goals as goal
 
 pub returns : goal.returns

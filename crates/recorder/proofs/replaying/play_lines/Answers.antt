@@ -1,8 +1,6 @@
 -- `recorder::replaying::play_lines`: after some lines `Playing` holds, and the place goes up with each. Assumes nothing.
-use Prim.Native.Nat.{◌-◌}
 use native.Mathlib.Omega.{arith}
-use borrow.Author.Rules.{rules}
-use Rattle.recorder.proofs.LawsPlaying.{Playing, begins, ends, goes-up, stops, goes_on}
+use Rattle.recorder.proofs.LawsPlaying.{begins, ends, goes-up, stops, goes_on}
 use Rattle.recorder.proofs.replaying.play_lines.Goals as goal
 
 pub loop-at-init : goal.loop-at-init

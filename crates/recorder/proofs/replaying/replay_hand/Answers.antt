@@ -1,6 +1,5 @@
 -- `recorder::replaying::replay_hand`: by what the reader gives of the bytes. Assumes nothing.
 use mathlib.Core.Path.{sym, ◌∙◌}
-use borrow.Author.Rules.{rules}
 use Rattle.recorder.proofs.LawsPlaying.{not-read, was_read}
 use Rattle.recorder.proofs.replaying.replay_hand.Goals as goal
 

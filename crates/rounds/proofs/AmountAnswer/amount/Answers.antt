@@ -1,7 +1,6 @@
 -- `rounds::AmountAnswer::amount`: the code's 0.0 is the definition's. Assumes nothing.
 use mathlib.Core.Path.{refl}
 use lib.Ieee.{of_bits}
-use borrow.Author.Rules.{rules}
 use Rattle.rounds.proofs.AmountAnswer.amount.Goals as goal
 
 pub returns-in-Unknown : goal.returns-in-Unknown

@@ -1,7 +1,6 @@
 -- `rounds::RoundData::advance_action`: each arm by the test of the data. Assumes nothing.
 use mathlib.Core.Path.{sym, ◌∙◌}
 use Rattle.rounds.specs.Steps.{advance_of}
-use borrow.Author.Rules.{rules}
 use Rattle.rounds.proofs.RoundData.advance_action.Goals as goal
 
 pub returns-then-is_sound : goal.returns-then-is_sound

@@ -3,7 +3,6 @@ use native.Mathlib.Omega.{arith}
 use mathlib.Core.Path.{sym, ◌∙◌}
 use Rattle.rounds.specs.Steps.{current_bet}
 use Rattle.rounds.proofs.Sound.{sound}
-use borrow.Author.Rules.{rules}
 use Rattle.rounds.proofs.RoundData.current_player_bet.Goals as goal
 
 pub offset_bounds-self-at : goal.offset_bounds-self-at

@@ -1,6 +1,5 @@
 -- `rounds::RoundData::do_bet`: each arm by its tests. Assumes nothing.
 use mathlib.Core.Path.{sym, ap, ◌∙◌}
-use borrow.Author.Rules.{rules}
 use Rattle.rounds.specs.Paying.{is_full, staked}
 use Rattle.rounds.specs.Steps.{done, with_stake}
 use Rattle.rounds.proofs.Bet.{bad, full, paid}

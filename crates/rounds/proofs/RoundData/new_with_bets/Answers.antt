@@ -2,7 +2,6 @@
 use lib.Ieee.{of_bits}
 use mathlib.Core.Path.{sym, ◌∙◌}
 use Rattle.rounds.specs.Steps.{with_bets_of}
-use borrow.Author.Rules.{rules}
 use Rattle.rounds.proofs.RoundData.new_with_bets.Goals as goal
 
 pub returns-then-is_sound : goal.returns-then-is_sound

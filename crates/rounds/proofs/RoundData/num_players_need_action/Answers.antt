@@ -1,5 +1,4 @@
 -- `rounds::RoundData::num_players_need_action`: the count is what count ensures. Assumes nothing.
-use borrow.Author.Rules.{rules}
 use Rattle.rounds.proofs.RoundData.num_players_need_action.Goals as goal
 
 pub returns : goal.returns

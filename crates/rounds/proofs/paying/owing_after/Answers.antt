@@ -1,5 +1,4 @@
 -- `rounds::paying::owing_after`: each callee's result in turn. Assumes nothing.
-use borrow.Author.Rules.{rules}
 use Rattle.rounds.specs.Paying.{owing_after}
 use Rattle.rounds.proofs.paying.owing_after.Goals as goal
 

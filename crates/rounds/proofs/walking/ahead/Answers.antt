@@ -1,7 +1,6 @@
 -- `rounds::walking::ahead`: the shifted one is 2 ^ n; the rest is a law of the turned set. Assumes nothing.
 use Prim.Native.Nat.{ℕ, ◌+◌, ◌-◌, ◌*◌, ◌/◌, ◌%◌, ◌^◌}
 use native.Mathlib.Omega.{arith}
-use borrow.Author.Rules.{rules}
 use mathlib.Core.Path.{sym, subst}
 use lib.Bits.{bit_or}
 use lib.Pow.{pow_pos}

@@ -1,7 +1,6 @@
 -- `rounds::walking::distance_to`: the first place of the set that lies ahead, or none. Assumes nothing.
 use native.Mathlib.Omega.{arith}
 use mathlib.Core.Path.{sym}
-use borrow.Author.Rules.{rules}
 use Rattle.rounds.proofs.LawsAhead.{first-owes, none_owes}
 use Rattle.rounds.proofs.walking.distance_to.Goals as goal
 

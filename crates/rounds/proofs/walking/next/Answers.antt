@@ -3,7 +3,6 @@ use native.Mathlib.Nat.{mod-eq_of_lt, mod_self}
 use native.Mathlib.Omega.{arith}
 use Prim.Native.Nat.{◌+◌}
 use mathlib.Core.Path.{◌≡◌, sym}
-use borrow.Author.Rules.{rules}
 use Rattle.rounds.proofs.walking.next.Goals as goal
 
 pub returns-then-on-n : goal.returns-then-on-n

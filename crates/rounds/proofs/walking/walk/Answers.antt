@@ -1,6 +1,6 @@
 -- `rounds::walking::walk`: each arm by the test that the seat is one of a table of up to 16. Assumes nothing.
 use lib.Dec.{ltb, leb}
-use borrow.Author.Tests.{ltb-true, leb-true}
+use borrow.Author.Tests.{ltb-true}
 use Rattle.commons.proofs.Bools.{and_both}
 use Rattle.rounds.specs.Walk.{walk_of}
 use Rattle.rounds.proofs.walking.walk.Goals as goal

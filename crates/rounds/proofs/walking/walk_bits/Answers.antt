@@ -1,7 +1,6 @@
 -- `rounds::walking::walk_bits`: the next seat, or the seat so many places on, below n or once round. Assumes nothing.
 use native.Mathlib.Omega.{arith}
 use mathlib.Core.Path.{sym, ◌∙◌}
-use borrow.Author.Rules.{rules}
 use Rattle.rounds.proofs.Walk.{distance_high}
 use Rattle.rounds.proofs.LawsAhead.{next-owes, seat-below, seat-round}
 use Rattle.rounds.proofs.walking.walk_bits.Goals as goal

@@ -1,10 +1,8 @@
 -- `rounds::walking::walk_from`: what the loop knows is `Stands`, and each end of it is a law there. Assumes nothing.
 use native.Mathlib.Nat.{mod-lt}
-use Prim.Native.Nat.{◌-◌}
 use native.Mathlib.Omega.{arith}
-use borrow.Author.Rules.{rules}
 use mathlib.Core.Path.{sym, ◌∙◌}
-use Rattle.rounds.proofs.Loop.{Stands, begins, goes_on, found, none}
+use Rattle.rounds.proofs.Loop.{begins, goes_on, found, none}
 use Rattle.rounds.proofs.walking.walk_from.Goals as goal
 
 pub next-at-requires : goal.next-at-requires

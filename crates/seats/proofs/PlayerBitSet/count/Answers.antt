@@ -1,5 +1,4 @@
 -- `seats::PlayerBitSet::count`: the count is what bits::count ensures. Assumes nothing.
-use borrow.Author.Rules.{rules}
 use Rattle.seats.proofs.PlayerBitSet.count.Goals as goal
 
 pub returns : goal.returns

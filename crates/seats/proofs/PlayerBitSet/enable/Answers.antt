@@ -1,7 +1,6 @@
 -- `seats::PlayerBitSet::enable`: each arm by its test. Assumes nothing.
 use borrow.Author.Tests.{lt-ltb, le-ltb}
 use Rattle.seats.specs.Set.{enable_of}
-use borrow.Author.Rules.{rules}
 use Rattle.seats.proofs.PlayerBitSet.enable.Goals as goal
 
 pub returns-then-idx-lt16 : goal.returns-then-idx-lt16

@@ -1,7 +1,6 @@
 -- `seats::PlayerBitSet::get`: each arm by its test. Assumes nothing.
 use borrow.Author.Tests.{lt-ltb, le-ltb}
 use Rattle.seats.specs.Set.{get_of}
-use borrow.Author.Rules.{rules}
 use Rattle.seats.proofs.PlayerBitSet.get.Goals as goal
 
 pub returns-then-idx-lt16 : goal.returns-then-idx-lt16

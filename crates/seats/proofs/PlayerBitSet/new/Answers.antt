@@ -1,7 +1,6 @@
 -- `seats::PlayerBitSet::new`: each arm by its test. Assumes nothing.
-use borrow.Author.Tests.{lt-ltb, le-ltb, le-leb, lt-leb}
+use borrow.Author.Tests.{le-leb, lt-leb}
 use Rattle.seats.specs.Set.{new_of}
-use borrow.Author.Rules.{rules}
 use Rattle.seats.proofs.PlayerBitSet.new.Goals as goal
 
 pub returns-then-players-le16 : goal.returns-then-players-le16

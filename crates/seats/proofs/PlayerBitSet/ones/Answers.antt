@@ -2,7 +2,6 @@
 use borrow.Author.Tests.{lt-ltb, le-ltb}
 use mathlib.Core.Path.{sym}
 use Rattle.seats.specs.Set.{ones_of}
-use borrow.Author.Rules.{rules}
 use Rattle.seats.proofs.PlayerBitSet.ones.Goals as goal
 
 pub returns-then-i-lt16 : goal.returns-then-i-lt16

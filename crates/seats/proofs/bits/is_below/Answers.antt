@@ -4,7 +4,6 @@ use lib.Pow.{pow_mono}
 use native.Mathlib.Nat.{lt_of_lt_of_le}
 use mathlib.Core.Path.{sym}
 use Rattle.seats.proofs.Laws.{shifted}
-use borrow.Author.Rules.{rules}
 use Rattle.seats.proofs.bits.is_below.Goals as goal
 
 pub returns-then-n-ge16 : goal.returns-then-n-ge16

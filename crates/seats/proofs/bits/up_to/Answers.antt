@@ -1,9 +1,8 @@
 -- `seats::bits::up_to`: the shifted one is 2 ^ n. Assumes nothing.
-use borrow.Author.Tests.{lt-ltb, le-ltb, le-leb, lt-leb}
+use borrow.Author.Tests.{lt-ltb, le-ltb}
 use lib.Pow.{pow_pos}
 use Rattle.seats.specs.Bits.{up_to}
 use Rattle.seats.proofs.Laws.{shifted}
-use borrow.Author.Rules.{rules}
 use Rattle.seats.proofs.bits.up_to.Goals as goal
 
 pub returns-then-n-ge16 : goal.returns-then-n-ge16

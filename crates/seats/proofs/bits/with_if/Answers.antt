@@ -1,5 +1,4 @@
 -- `seats::bits::with_if`: each arm by its test. Assumes nothing.
-use borrow.Author.Rules.{rules}
 use Rattle.seats.proofs.bits.with_if.Goals as goal
 
 pub returns-then-test : goal.returns-then-test

@@ -1,7 +1,6 @@
 -- `seats::bits::without` meets its contract. The shifted one is 2 ^ i.
 -- Assumes nothing.
-use borrow.Author.Tests.{lt-ltb, le-ltb, le-leb, lt-leb}
-use borrow.Author.Rules.{rules}
+use borrow.Author.Tests.{lt-ltb, le-ltb}
 use Rattle.seats.proofs.Laws.{shifted}
 use Rattle.seats.specs.Bits.{without}
 use Rattle.seats.proofs.bits.without.Goals as goal

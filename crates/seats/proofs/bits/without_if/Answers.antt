@@ -1,5 +1,4 @@
 -- `seats::bits::without_if`: each arm by its test. Assumes nothing.
-use borrow.Author.Rules.{rules}
 use Rattle.seats.proofs.bits.without_if.Goals as goal
 
 pub returns-then-test : goal.returns-then-test

@@ -1,7 +1,6 @@
 -- `settlement::checks::any_won`: each turn takes one place more into `any_to`; past the array's end stands a NaN, which is not 0. Assumes nothing.
-use Rattle.std.proofs.Common.{◌≡◌, ◌-◌, ◌≤◌, get_or, sym, refl, le_antisymm, arith}
-use lib.Ieee.{nan, of_bits, ne}
-use Rattle.floats.specs.Helpers.{zerof}
+use Rattle.std.proofs.Common.{sym, refl, le_antisymm, arith}
+use lib.Ieee.{of_bits}
 use Rattle.commons.specs.Folds.{any_to}
 use Rattle.commons.proofs.Folds.{any_next}
 use Rattle.settlement.specs.Settlement.{any_won}

@@ -1,5 +1,5 @@
 -- `settlement::checks::in_chips`: the tests are the definition's, and of 16 places the sum fits. Assumes nothing.
-use Rattle.std.proofs.Common.{arith, rules}
+use Rattle.std.proofs.Common.{arith}
 use Rattle.chips.proofs.Whole.{chips-le}
 use Rattle.settlement.specs.Settlement.{in_chips}
 use Rattle.settlement.proofs.Whole.{sum_fits}

@@ -1,9 +1,7 @@
 -- `settlement::paying::counted`: each turn fills one place more. Assumes nothing.
-use Rattle.std.proofs.Common.{◌≡◌, ◌-◌, ◌≤◌, arith}
-use Rattle.commons.specs.Filled.{filled}
+use Rattle.std.proofs.Common.{arith}
 use Rattle.commons.proofs.Filled.{filled_none, filled_next, filled-end}
-use Rattle.layers.specs.Settlement.{nothing}
-use Rattle.settlement.specs.Hand.{chips_at, counted_of}
+use Rattle.settlement.specs.Hand.{counted_of}
 use Rattle.settlement.proofs.paying.counted.Goals as goal
 
 pub loop-i-init : goal.loop-i-init

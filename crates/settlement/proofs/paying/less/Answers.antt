@@ -1,6 +1,5 @@
 -- `settlement::paying::less`: of two amounts of at most 8,000 the difference fits. Assumes nothing.
 use Rattle.settlement.proofs.Signed.{less_asked, less-is}
-use Rattle.std.proofs.Common.{rules}
 use Rattle.settlement.proofs.paying.less.Goals as goal
 
 pub overflow_sub-result : goal.overflow_sub-result

@@ -1,11 +1,8 @@
 -- `settlement::paying::rewards`: each turn fills one place more with a difference of at most 8,000 chips. Assumes nothing.
-use Rattle.std.proofs.Common.{◌≡◌, ◌-◌, ◌≤◌, pos, ◌-ℤ◌, arith}
+use Rattle.std.proofs.Common.{◌≡◌, ◌-◌, ◌≤◌, pos, ◌-ℤ◌}
 use Rattle.commons.specs.Filled.{filled}
-use Rattle.commons.proofs.Filled.{filled_none, filled_next, filled-end}
-use Rattle.chips.proofs.Whole.{chips-le}
 use Rattle.settlement.specs.Hand.{chips_at}
-use Rattle.settlement.specs.Settlement.{no_rewards, rewards_of}
-use Rattle.settlement.proofs.Signed.{less-kept}
+use Rattle.settlement.specs.Settlement.{no_rewards}
 use Rattle.settlement.proofs.paying.rewards.Given as goal
 
 abbrev pub invariant-loop-i : goal.invariant-loop-i

@@ -1,5 +1,5 @@
 -- `settlement::paying::with_award`: each way by its test. Assumes nothing.
-use Rattle.std.proofs.Common.{rules, eq-eqb, ne_eqb}
+use Rattle.std.proofs.Common.{eq-eqb, ne_eqb}
 use Rattle.settlement.specs.Settlement.{raised}
 use Rattle.settlement.proofs.paying.with_award.Goals as goal
 

@@ -1,9 +1,7 @@
 -- `settlement::paying::with_awards`: each turn raises one place more. Assumes nothing.
-use Rattle.std.proofs.Common.{◌≡◌, ◌-◌, ◌≤◌, get_or, arith}
-use lib.Ieee.{nan}
-use Rattle.commons.specs.Filled.{filled}
+use Rattle.std.proofs.Common.{arith}
 use Rattle.commons.proofs.Filled.{filled_none, filled_next, filled-end}
-use Rattle.settlement.specs.Settlement.{raised, raised_all}
+use Rattle.settlement.specs.Settlement.{raised_all}
 use Rattle.settlement.proofs.paying.with_awards.Goals as goal
 
 pub loop-i-init : goal.loop-i-init

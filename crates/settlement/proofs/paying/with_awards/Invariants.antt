@@ -1,9 +1,8 @@
 -- `settlement::paying::with_awards`: each turn raises one place more. Assumes nothing.
-use Rattle.std.proofs.Common.{◌≡◌, ◌-◌, ◌≤◌, get_or, arith}
+use Rattle.std.proofs.Common.{◌≡◌, ◌-◌, ◌≤◌, get_or}
 use lib.Ieee.{nan}
 use Rattle.commons.specs.Filled.{filled}
-use Rattle.commons.proofs.Filled.{filled_none, filled_next, filled-end}
-use Rattle.settlement.specs.Settlement.{raised, raised_all}
+use Rattle.settlement.specs.Settlement.{raised}
 use Rattle.settlement.proofs.paying.with_awards.Given as goal
 
 abbrev pub invariant-loop-i : goal.invariant-loop-i

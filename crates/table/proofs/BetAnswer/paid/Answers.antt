@@ -1,7 +1,6 @@
 -- `table::BetAnswer::paid`: the code's 0.0 is the definition's. Assumes nothing.
 use mathlib.Core.Path.{refl}
 use lib.Ieee.{of_bits}
-use borrow.Author.Rules.{rules}
 use Rattle.table.proofs.BetAnswer.paid.Goals as goal
 
 pub returns-in-NotPaid : goal.returns-in-NotPaid

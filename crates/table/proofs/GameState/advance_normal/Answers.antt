@@ -1,5 +1,4 @@
 -- `table::GameState::advance_normal`: each callee's result in turn. Assumes nothing.
-use borrow.Author.Rules.{rules}
 use Rattle.table.proofs.GameState.advance_normal.Goals as goal
 
 pub returns : goal.returns

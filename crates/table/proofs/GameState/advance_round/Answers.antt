@@ -1,7 +1,6 @@
 -- `table::GameState::advance_round`: each return by its tests. Assumes nothing.
-use mathlib.Core.Path.{sym, ap, ◌∙◌}
+use mathlib.Core.Path.{sym, ◌∙◌}
 use Rattle.table.specs.Rounds.{advance_of}
-use borrow.Author.Rules.{rules}
 use Rattle.table.proofs.GameState.advance_round.Goals as goal
 
 pub returns-then-is_round : goal.returns-then-is_round

@@ -4,7 +4,6 @@ use native.Mathlib.Omega.{arith}
 use borrow.Author.Tests.{lt-ltb, le-ltb}
 use Rattle.table.specs.Pay.{award_of}
 use Rattle.table.proofs.Sound.{passed}
-use borrow.Author.Rules.{rules}
 use Rattle.table.proofs.GameState.award.Goals as goal
 
 pub awarded-requires : goal.awarded-requires

@@ -1,6 +1,5 @@
 -- `table::GameState::awarded`: each list is stored as the definition says. Assumes nothing.
 use mathlib.Core.Path.{refl}
-use borrow.Author.Rules.{rules}
 use Rattle.table.proofs.GameState.awarded.Goals as goal
 
 pub returns : goal.returns

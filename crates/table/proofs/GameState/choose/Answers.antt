@@ -1,7 +1,5 @@
 -- `table::GameState::choose`: each choice is its step. Assumes nothing.
-use mathlib.Core.Path.{sym, ap, ◌∙◌}
 use Rattle.table.specs.Choice.{choice_of}
-use borrow.Author.Rules.{rules}
 use Rattle.table.proofs.GameState.choose.Goals as goal
 
 pub returns-in-Call : goal.returns-in-Call

@@ -1,7 +1,6 @@
 -- `table::GameState::complete`: each return by its tests. Assumes nothing.
-use mathlib.Core.Path.{sym, ap, ◌∙◌}
+use mathlib.Core.Path.{sym, ◌∙◌}
 use Rattle.table.specs.Rounds.{complete_of}
-use borrow.Author.Rules.{rules}
 use Rattle.table.proofs.GameState.complete.Goals as goal
 
 pub returns-then-is_round : goal.returns-then-is_round

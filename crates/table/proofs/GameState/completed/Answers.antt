@@ -1,5 +1,4 @@
 -- `table::GameState::completed`: each callee's result in turn. Assumes nothing.
-use borrow.Author.Rules.{rules}
 use Rattle.table.proofs.GameState.completed.Goals as goal
 
 pub returns : goal.returns

@@ -1,7 +1,5 @@
 -- `table::GameState::do_bet`: each way to the exit is a case of the definition. Assumes nothing.
-use mathlib.Core.Path.{ap, ◌∙◌}
-use borrow.Author.Rules.{rules}
-use Rattle.commons.proofs.Bools.{turned}
+use mathlib.Core.Path.{◌∙◌}
 use Rattle.rounds.specs.Paying.{pay_of, seated}
 use Rattle.rounds.specs.Walk.{walk_of}
 use Rattle.table.specs.Answers.{paid}

@@ -1,7 +1,6 @@
 -- `table::GameState::fold`: both ways to the exit by the test of the record. Assumes nothing.
-use mathlib.Core.Path.{sym, ap, ◌∙◌}
+use mathlib.Core.Path.{sym, ◌∙◌}
 use Rattle.table.specs.Pay.{fold_of}
-use borrow.Author.Rules.{rules}
 use Rattle.table.proofs.GameState.fold.Goals as goal
 
 pub returns-then-is_sound : goal.returns-then-is_sound

@@ -1,6 +1,5 @@
 -- `table::GameState::fresh_data`: the cleared list is what cleared ensures. Assumes nothing.
 use lib.Ieee.{of_bits}
-use borrow.Author.Rules.{rules}
 use Rattle.table.proofs.GameState.fresh_data.Goals as goal
 
 pub returns : goal.returns

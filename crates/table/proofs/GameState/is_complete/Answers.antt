@@ -1,5 +1,4 @@
 -- `table::GameState::is_complete`: each test is what its callee ensures. Assumes nothing.
-use borrow.Author.Rules.{rules}
 use Rattle.table.proofs.GameState.is_complete.Goals as goal
 
 pub returns : goal.returns

@@ -1,6 +1,5 @@
 -- `table::GameState::is_sound`: the frame is tested. Assumes nothing.
 use mathlib.Core.Path.{ap, ◌∙◌}
-use borrow.Author.Rules.{rules}
 use Rattle.table.specs.Sound.{sound_frame}
 use Rattle.table.proofs.GameState.is_sound.Goals as goal
 

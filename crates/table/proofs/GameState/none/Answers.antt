@@ -1,6 +1,5 @@
 -- `table::GameState::none`: the code's 0.0 is the definition's. Assumes nothing.
 use lib.Ieee.{of_bits}
-use borrow.Author.Rules.{rules}
 use Rattle.table.proofs.GameState.none.Goals as goal
 
 pub returns : goal.returns

@@ -4,7 +4,6 @@ use native.Mathlib.Omega.{arith}
 use borrow.Author.Tests.{lt-ltb, le-ltb}
 use Rattle.table.specs.Pay.{reward_of}
 use Rattle.table.proofs.Sound.{passed}
-use borrow.Author.Rules.{rules}
 use Rattle.table.proofs.GameState.player_reward.Goals as goal
 
 pub offset_bounds-stacks-player_idx : goal.offset_bounds-stacks-player_idx

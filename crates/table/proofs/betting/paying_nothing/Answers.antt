@@ -1,6 +1,5 @@
 -- `table::betting::paying_nothing`: each case is its answer. Assumes nothing.
 use lib.Ieee.{of_bits}
-use borrow.Author.Rules.{rules}
 use Rattle.table.proofs.betting.paying_nothing.Goals as goal
 
 pub returns-in-Done : goal.returns-in-Done

@@ -1,5 +1,4 @@
 -- `table::betting::room_for`: by the size, and then by the counters. Assumes nothing.
-use borrow.Author.Rules.{rules}
 use Rattle.table.proofs.Bet.{room-refused, room-full, room-left}
 use Rattle.table.proofs.betting.room_for.Goals as goal
 

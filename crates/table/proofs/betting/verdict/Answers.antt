@@ -1,6 +1,5 @@
 -- `table::betting::verdict`: what the size comes to, and then the counters' row. Assumes nothing.
 use mathlib.Core.Path.{◌∙◌}
-use borrow.Author.Rules.{rules}
 use Rattle.table.proofs.Bet.{verdict-room}
 use Rattle.table.proofs.betting.verdict.Goals as goal
 

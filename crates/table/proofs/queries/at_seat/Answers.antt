@@ -2,7 +2,6 @@
 use lib.Ieee.{of_bits}
 use borrow.Author.Tests.{lt-ltb, le-ltb}
 use Rattle.table.specs.Queries.{at_seat}
-use borrow.Author.Rules.{rules}
 use Rattle.table.proofs.queries.at_seat.Goals as goal
 
 pub returns-then-i-lt16 : goal.returns-then-i-lt16

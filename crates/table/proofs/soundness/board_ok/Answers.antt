@@ -1,10 +1,8 @@
 -- `table::soundness::board_ok`: from the last card down: what is left to test is the first k. Assumes nothing.
-use mathlib.Core.Path.{◌≡◌, sym, ◌∙◌}
-use Prim.Native.Nat.{◌≤◌, ◌-◌}
+use mathlib.Core.Path.{sym, ◌∙◌}
 use borrow.Author.Tests.{lt-leb}
 use native.Mathlib.Omega.{arith}
-use borrow.Author.Rules.{rules}
-use Rattle.table.specs.Sound.{board_ok, cards_ok}
+use Rattle.table.specs.Sound.{board_ok}
 use Rattle.table.proofs.Sound.{bad_card, good_card, few-cards, no-cards}
 use Rattle.table.proofs.soundness.board_ok.Goals as goal
 

@@ -1,5 +1,4 @@
 -- `rounds::paying::Payer::pay`: each field is what its callee ensures. Assumes nothing.
-use borrow.Author.Rules.{rules}
 use Rattle.rounds.proofs.paying.Payer.pay.Goals as goal
 
 pub returns : goal.returns

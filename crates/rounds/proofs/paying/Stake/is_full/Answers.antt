@@ -1,5 +1,4 @@
 -- `rounds::paying::Stake::is_full`: the raise is what is_raise ensures. Assumes nothing.
-use borrow.Author.Rules.{rules}
 use Rattle.rounds.proofs.paying.Stake.is_full.Goals as goal
 
 pub returns : goal.returns

@@ -1,5 +1,4 @@
 -- `rounds::paying::Stake::put_in`: each field is what its callee ensures. Assumes nothing.
-use borrow.Author.Rules.{rules}
 use Rattle.rounds.proofs.paying.Stake.put_in.Goals as goal
 
 pub returns : goal.returns

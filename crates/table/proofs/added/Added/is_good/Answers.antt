@@ -1,5 +1,4 @@
 -- `table::added::Added::is_good`: the key's own test. Assumes nothing.
-use borrow.Author.Rules.{rules}
 use Rattle.table.specs.Added.{good_added}
 use Rattle.table.proofs.added.Added.is_good.Goals as goal
 

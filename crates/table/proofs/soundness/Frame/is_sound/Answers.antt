@@ -1,5 +1,4 @@
 -- `table::soundness::Frame::is_sound`: each test is what its callee ensures. Assumes nothing.
-use borrow.Author.Rules.{rules}
 use Rattle.table.specs.Sound.{sound_frame}
 use Rattle.table.proofs.soundness.Frame.is_sound.Goals as goal
 
