@@ -23,10 +23,13 @@ fn not_cut_back(rt: &HostRuntime, path: &[u8]) {
     say(rt, b"\n");
 }
 
-// The newer of two reasons: why the length was not set, or else what failed before.
-fn reason_of(cut: Result<()>, before: Error) -> Error {
-    match cut {
-        Ok(()) => before,
+// The newest reason: why the size is not told, why the length was not set, or else what failed before.
+fn reason_of(size: Result<usize>, cut: Result<()>, before: Error) -> Error {
+    match size {
+        Ok(_) => match cut {
+            Ok(()) => before,
+            Err(error) => error,
+        },
         Err(error) => error,
     }
 }
@@ -38,12 +41,13 @@ fn cut_back(rt: &HostRuntime, path: &[u8], file: &File, stood: usize, put: usize
         return;
     }
     let cut = file.set_len(inputs::place_of(stood));
-    if cards::size_of(file) != stood {
+    let size = cards::ask_size(file);
+    if size.unwrap_or(0) != stood {
         say(
             rt,
             b"journal: that hand may stand there, and the file cannot be cut back: ",
         );
-        fail(rt, path, reason_of(cut, before));
+        fail(rt, path, reason_of(size, cut, before));
         return;
     }
     if let Err(error) = file.sync_all() {

@@ -48,10 +48,15 @@ fn wide(size: u64) -> usize {
     0
 }
 
+pub fn ask_size(mut file: &File) -> Result<usize> {
+    let size = file.seek(SeekFrom::End(0))?;
+    Ok(wide(size))
+}
+
 // The bytes of a file that has a size.
-pub fn size_of(mut file: &File) -> usize {
-    match file.seek(SeekFrom::End(0)) {
-        Ok(size) => wide(size),
+pub fn size_of(file: &File) -> usize {
+    match ask_size(file) {
+        Ok(size) => size,
         Err(_) => 0,
     }
 }

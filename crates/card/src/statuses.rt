@@ -45,7 +45,7 @@ fn is_for_writing(state: &[u8]) -> bool {
     false
 }
 
-pub fn is_open_to_write(rt: &HostRuntime, fd: u64) -> bool {
+fn is_flagged_to_write(rt: &HostRuntime, fd: u64) -> bool {
     let mut name = [0u8; MOST];
     let len = put_name(&mut name, b"/proc/self/fdinfo/", fd);
     match files::open_read(rt, &name[..len]) {
@@ -66,6 +66,18 @@ fn open_descriptor(rt: &HostRuntime, fd: u64) -> Result<File> {
         Ok(file) => Ok(file),
         Err(_) => files::open_append(rt, &name[..len]),
     }
+}
+
+fn takes_no_bytes(rt: &HostRuntime, fd: u64) -> bool {
+    match open_descriptor(rt, fd) {
+        Ok(mut file) => file.write(b"").is_ok(),
+        Err(_) => false,
+    }
+}
+
+// A write of no bytes shows whether a descriptor that is open for writing can be written to.
+pub fn is_open_to_write(rt: &HostRuntime, fd: u64) -> bool {
+    is_flagged_to_write(rt, fd) && takes_no_bytes(rt, fd)
 }
 
 pub fn tell(rt: &HostRuntime, fd: u64, status: u8) {
