@@ -1,40 +1,26 @@
 // Text laid into bytes, each piece behind the one before it. What finds no room is left out; the place goes on.
 use crate::files::EIO;
 use crate::numbers;
-use std::fmt;
-use std::fmt::Write;
-use std::io::{Error, Result};
+use std::io::{Cursor, Error, Result, Write};
 
 // The most bytes of what the library prints of a number or of an error.
 const MOST: usize = 128;
 
 // What the library prints.
-#[derive(Drop)]
-pub struct Words {
-    bytes: [u8; MOST],
-    len: usize,
+type Words = Cursor<[u8; MOST]>;
+
+fn no_words() -> Words {
+    Cursor::new([0; MOST])
 }
 
-impl fmt::Write for Words {
-    fn write_str(&mut self, s: &str) -> fmt::Result {
-        let at = self.len;
-        self.len = put(&mut self.bytes, at, s.as_bytes());
-        Ok(())
-    }
+fn len_of(words: &Words) -> usize {
+    words.position() as usize
 }
 
-impl Words {
-    fn new() -> Words {
-        Words {
-            bytes: [0; MOST],
-            len: 0,
-        }
-    }
-
-    fn first(&self, len: usize) -> &[u8] {
-        let all = &self.bytes[..];
-        &all[..commons::smaller(len, all.len())]
-    }
+// The first bytes of what the library has printed.
+fn put_first(out: &mut [u8], at: usize, words: &Words, len: usize) -> usize {
+    let all = words.get_ref();
+    put(out, at, &all[..commons::smaller(len, MOST)])
 }
 
 pub fn put(out: &mut [u8], at: usize, text: &[u8]) -> usize {
@@ -44,9 +30,9 @@ pub fn put(out: &mut [u8], at: usize, text: &[u8]) -> usize {
 }
 
 pub fn put_number(out: &mut [u8], at: usize, number: u64) -> usize {
-    let mut digits = Words::new();
+    let mut digits = no_words();
     let _ = write!(digits, "{number}");
-    put(out, at, digits.first(digits.len))
+    put_first(out, at, &digits, len_of(&digits))
 }
 
 // A number and the byte that ends it.
@@ -57,13 +43,14 @@ pub fn put_word(out: &mut [u8], at: usize, number: u64, end: u8) -> usize {
 
 // Why a call failed, in C's words: what the library prints, without the number that it puts behind them.
 pub fn put_reason(out: &mut [u8], at: usize, error: Error) -> usize {
-    let mut all = Words::new();
+    let mut all = no_words();
     let _ = write!(all, "{error}");
-    let mut behind = Words::new();
+    let mut behind = no_words();
     if let Some(code) = error.raw_os_error() {
         let _ = write!(behind, " (os error {code})");
     }
-    put(out, at, all.first(commons::less(all.len, behind.len)))
+    let len = commons::less(len_of(&all), len_of(&behind));
+    put_first(out, at, &all, len)
 }
 
 pub fn write(rt: &HostRuntime, text: &[u8], len: usize) -> Result<()> {
