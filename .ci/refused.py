@@ -50,12 +50,14 @@ FORMS = {
     r"§ has no last argument, so what it leaves must be a path whose two ends are equal, and § is none$",
     # `omega` or `grind` names values at which all that is known holds and the goal does not.
     "numbers": r"§: the goal does not follow(?: from what it read\. All of that holds, and the goal fails, at §|\. The hypotheses hold, and the goal fails at §)",
-    # `search` found no proof, within its own bounds; where the call broke off it says so, and that is no fact.
+    # `search` in an answer found no proof, within its own bounds; where the call broke off it says so, and that is no fact.
     "search": r"§: no proof of § was found\. ",
     # The checker's own search, at a goal with no answer: it found values at which all that is known holds and the goal does not.
     "values": r"it is not proved that .*? \(§\); the facts known there allow values at which this goal is false$",
-    # The same, with no values, where every way was tried to its end; where one gave up at a limit it says so, and that is no fact.
+    # The same, with no values: every way was tried.
     "own search": r"it is not proved that .*? \(§\)$",
+    # The same, within the search's own bounds, in which it proves that goal of the right program.
+    "within bounds": r"it is not proved that .*? \(§\)(?:; § gave up at one of its limits)+$",
 }
 HOLLOW = {
     # The code has other places or needs: whatever else is said of the function may come from that.
@@ -71,6 +73,8 @@ HOLLOW = {
     # It stands on something that was refused before.
     "follows": r"§, which was (?:not admitted|rejected), (?:was|were) not checked|§ was not admitted",
 }
+# Of two sides the starts are the same, and the rest is not shown.
+CUT = re.compile(r"the first \d+ bytes of the two types are identical")
 # The goals of a function, by their kinds: what it promises, at a return; what a loop keeps, and that it ends; what a callee asks; and
 # that each step is safe.
 NEED = re.compile(
@@ -120,7 +124,8 @@ def judged(text, own=None, files=()):
 
     Of a function (its file, first line, last line, name) its own first complaint counts, unless one of its own tells that the code
     has another shape. Of a definition the first counts that is no function's, whose code gives what the definition was; it must be
-    in a law. A law of each of the files must be among what is refused at a fact.
+    in a law, and is passed over where its two sides are too long to be told apart and more is said. A law of each of the files must
+    be among what is refused at a fact.
     """
     said = complaints(text)
     mine = [c for c in said if not whose(c) and not c.file.startswith("src/")]
@@ -129,7 +134,8 @@ def judged(text, own=None, files=()):
         mine = [c for c in said if whose(c) == name or c.file == f"src/{at}" and a <= c.row <= b]
     if not mine:
         return "look", "no complaint of its own"
-    first = next((c for c in mine if own and hollow(c.said) == "shape"), mine[0])
+    told = [c for c in mine if own or form(c.said) or not CUT.search(c.said)] or mine
+    first = next((c for c in told if own and hollow(c.said) == "shape"), told[0])
     shown = f"{first.file} {first.need}"
     if hollow(first.said):
         return "hollow", f"{shown}, {hollow(first.said)}"
