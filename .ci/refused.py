@@ -42,7 +42,7 @@ FORMS = {
     "by parts": rf"{PRINTED}computed as far as they go, the first \d+ bytes of the two types are identical .*{TYPES} "
     r"compared part by part, the two types first differ at ",
     # Two terms had to be the same and are not, once what was open in them was known.
-    "turned out": r"§ ≟ §:? does not hold \(this comparison, made at this position, had to wait for a metavariable; it turned out false ",
+    "turned out": r"(?:(?:computed as|as printed).* )?§ ≟ §:? does not hold \(this comparison, made at this position, had to wait for a metavariable; it turned out false ",
     # A path is given as a λ, and one of its ends is not what is asked.
     "end": rf"(?:{PRINTED}(?:{UNSEEN} )?)?on the face § this λ's body is §,? but the extension \(path\) type requires § there(?: {UNSEEN})?$",
     # `simp` or `rw` has put in all that is known, and the two sides are not the same.
