@@ -41,13 +41,13 @@ owing_after rose forced out owed active i = without_if out (without_if (not forc
 
 -- ---- R7.1, R7.2, R7.8: the payer: the amounts and the sets
 abbrev pub payer_of : Stake → Float → Float → Float → ℕ → ℕ → ℕ → ℕ → Payer
-payer_of s stack hand pot active all_in_lem owing seat = record {
+payer_of s stack hand pot active all_in owing seat = record {
   stake = s;
   stack = stack;
   hand_bet = hand;
   pot = pot;
   active = active;
-  all_in = all_in_lem;
+  all_in = all_in;
   owing = owing;
   seat = seat;
 }

@@ -12,10 +12,10 @@ use Rattle.table.specs.declared.added.Added.{Added}
 use Rattle.table.specs.Added.{no_added}
 
 abbrev pub table_of : ℕ → ℕ → ℕ → Float → List Float → List Float → List Float → List Float → Float → Float → Float → ℕ → Round → Round → RoundData → List ℕ → ℕ → Bool → Bool → Bool → ℕ → Added → GameState
-table_of n active all_in_lem pot stacks starting bets winnings big small ante dealer now before d board len bb sb capped cap added = record {
+table_of n active all_in pot stacks starting bets winnings big small ante dealer now before d board len bb sb capped cap added = record {
   num_players = n;
   player_active = of_bits active;
-  player_all_in = of_bits all_in_lem;
+  player_all_in = of_bits all_in;
   total_pot = pot;
   stacks = stacks;
   starting_stacks = starting;
@@ -43,13 +43,13 @@ no_table = table_of 0 0 0 zerof zeros zeros zeros zeros zerof zerof zerof 0 Star
 
 -- with the fields changed that some step moves
 abbrev pub changed : GameState → ℕ → ℕ → Float → List Float → List Float → List Float → Round → Round → RoundData → GameState
-changed t active all_in_lem pot stacks bets winnings now before d =
-    table_of t.num_players active all_in_lem pot stacks t.starting_stacks bets winnings t.big_blind t.small_blind t.ante t.dealer_idx now before d
+changed t active all_in pot stacks bets winnings now before d =
+    table_of t.num_players active all_in pot stacks t.starting_stacks bets winnings t.big_blind t.small_blind t.ante t.dealer_idx now before d
     t.board t.board_len t.bb_posted t.sb_posted t.has_max_raises t.max_raises_per_round t.added
 
 -- R7.10: what a payment moves
 abbrev pub with_payment : GameState → ℕ → ℕ → Float → List Float → List Float → RoundData → GameState
-with_payment t active all_in_lem pot stacks bets d = changed t active all_in_lem pot stacks bets t.player_winnings t.round t.round_before d
+with_payment t active all_in pot stacks bets d = changed t active all_in pot stacks bets t.player_winnings t.round t.round_before d
 
 -- R8.2: what a fold moves
 abbrev pub with_fold : GameState → ℕ → RoundData → GameState
