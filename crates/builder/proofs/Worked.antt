@@ -139,14 +139,14 @@ neighbours =
 
 -- ---- what accepted builds hold: small blind, pot, active, all in and owing seats, cap
 holds : GameStateBuilder → ℕ → ℕ → ℕ → ℕ → ℕ → Bool
-holds b small pot active all_in_lem owing =
+holds b small pot active all_in owing =
     let t = (build_of b).table in
     all_of
     (gives 0 b
     ∷ eq t.small_blind (chips small)
     ∷ eq t.total_pot (chips pot)
     ∷ eqb t.player_active.set active
-    ∷ eqb t.player_all_in.set all_in_lem
+    ∷ eqb t.player_all_in.set all_in
     ∷ eqb t.round_data.needs_action.set owing
     ∷ eqb t.max_raises_per_round 3
     ∷ eqb t.round_data.to_act_idx 0

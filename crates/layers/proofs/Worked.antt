@@ -17,8 +17,8 @@ record Case : Type 0 where
 
 -- active and all-in seats as numbers (seat i is the digit i), the seat `first`, the bets, the ranks, the awards
 case : ℕ → ℕ → ℕ → List ℕ → List ℕ → List ℕ → Case
-case active all_in_lem first bets ranks gives =
-    record { hand = record { n = length bets; active = active; all_in = all_in_lem; first = first; bets = bets; ranks = ranks }; gives = gives }
+case active all_in first bets ranks gives =
+    record { hand = record { n = length bets; active = active; all_in = all_in; first = first; bets = bets; ranks = ranks }; gives = gives }
 
 table : List Case
 table =

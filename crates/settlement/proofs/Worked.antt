@@ -37,10 +37,10 @@ padded x l = l ++ replicate (16 - length l) x
 -- a record: the dealer, active and all-in seats as numbers (seat i is the digit i), the pot, stacks, hand bets, winnings; each seat began with its
 -- bet
 dealt : ℕ → ℕ → ℕ → ℕ → List Float → List ℕ → List Float → GameState
-dealt dealer active all_in_lem pot stacks bets winnings =
+dealt dealer active all_in pot stacks bets winnings =
     let n = length bets in
     let put = padded zerof (map chips bets) in
-    table_of n active all_in_lem (chips pot) (padded zerof stacks) put put (padded zerof winnings) (chips 10) (chips 5) zerof dealer River River
+    table_of n active all_in (chips pot) (padded zerof stacks) put put (padded zerof winnings) (chips 10) (chips 5) zerof dealer River River
     (new_data n (chips 10) (of_bits 0) 0) (replicate 5 0) 0 true true true 3 no_added
 
 -- seat 0 deals
@@ -64,9 +64,9 @@ seen s = record { number = verdict_number s.answer; stacks = s.table.stacks; win
 
 -- a hand paid from stacks and winnings of 0: the dealer, the bets, the ranks, the awards, the rewards
 paid : ℕ → ℕ → ℕ → ℕ → List ℕ → List ℕ → List ℕ → List ℤ → Case
-paid dealer active all_in_lem pot bets ranks awards rewards =
+paid dealer active all_in pot bets ranks awards rewards =
     let won = padded zerof (map chips awards) in
-    record { table = dealt dealer active all_in_lem pot [] bets []; ranks = ranks; gives = record { number = 0; stacks = won; winnings = won; rewards = padded (pos 0) rewards } }
+    record { table = dealt dealer active all_in pot [] bets []; ranks = ranks; gives = record { number = 0; stacks = won; winnings = won; rewards = padded (pos 0) rewards } }
 
 -- a record refused, with equal ranks
 refused : ℕ → GameState → Case

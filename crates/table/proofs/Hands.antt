@@ -51,7 +51,7 @@ record Shown : Type 0 where
   passed : ℕ
   seat : ℕ
   active : ℕ
-  all_in_lem : ℕ
+  all_in : ℕ
   owing : ℕ
   stack : Float
   least : Float
@@ -68,7 +68,7 @@ row number x passed t =
       passed = passed;
       seat = d.to_act_idx;
       active = t.player_active.set;
-      all_in_lem = t.player_all_in.set;
+      all_in = t.player_all_in.set;
       owing = d.needs_action.set;
       stack = get_or t.stacks 0 nan;
       least = d.min_raise;
@@ -85,7 +85,7 @@ same x y =
     ∷ eqb x.passed y.passed
     ∷ eqb x.seat y.seat
     ∷ eqb x.active y.active
-    ∷ eqb x.all_in_lem y.all_in_lem
+    ∷ eqb x.all_in y.all_in
     ∷ eqb x.owing y.owing
     ∷ eq x.stack y.stack
     ∷ eq x.least y.least
@@ -103,10 +103,10 @@ refuses n p k b m a = refuses-bet false n (hand p k b m) a
 
 -- a bet pays x and the walk passes so many seats on to this one; then these are active, all in and owe; stack, smallest raise, bet, pot and raises are these
 pays-out : Bool → GameState → Float → Float → ℕ → ℕ → ℕ → ℕ → ℕ → Float → Float → Float → Float → ℕ → Bool
-pays-out forced t a x passed seat active all_in_lem owing stack least bet pot raises =
+pays-out forced t a x passed seat active all_in owing stack least bet pot raises =
     let s = bet_of t a forced in
     same (row (bet_number s.answer) (bet_paid s.answer) (bet_passed s.answer) s.table)
-    (record { number = 0; pays = x; passed = passed; seat = seat; active = active; all_in_lem = all_in_lem; owing = owing; stack = stack; least = least; bet = bet; pot = pot; raises = raises })
+    (record { number = 0; pays = x; passed = passed; seat = seat; active = active; all_in = all_in; owing = owing; stack = stack; least = least; bet = bet; pot = pot; raises = raises })
 
 -- a fold moves the turn and the two sets, and nothing else
 folds : GameState → ℕ → ℕ → ℕ → ℕ → Bool
@@ -114,7 +114,7 @@ folds t passed seat active owing =
     let s = fold_of t in
     let d = t.round_data in
     same (row (number_of s.answer) zerof (passed_of s.answer) s.table)
-    (record { number = 0; pays = zerof; passed = passed; seat = seat; active = active; all_in_lem = 0; owing = owing; stack = get_or t.stacks 0 nan; least = d.min_raise; bet = d.bet; pot = t.total_pot; raises = d.total_raise_count })
+    (record { number = 0; pays = zerof; passed = passed; seat = seat; active = active; all_in = 0; owing = owing; stack = get_or t.stacks 0 nan; least = d.min_raise; bet = d.bet; pot = t.total_pot; raises = d.total_raise_count })
 
 -- an award of so many chips to seat 0, which has k: they go to stack and winnings, and the pot stays
 awards : Float → Float → Float → Bool
