@@ -14,10 +14,9 @@ pub enum Standing {
     Ended(u8),
 }
 
-// A file that took the number of a standard stream is closed before that is told: what is said would be written to it.
+// A file that took the number of a standard stream: where that is standard error's, what is said is written to the file.
 fn stands_open(rt: &HostRuntime, file: File, bytes: usize) -> Standing {
     if cards::is_stream(&file) {
-        drop(file);
         return Standing::Ended(telling::stream_closed(rt));
     }
     Standing::Open { file, bytes }
