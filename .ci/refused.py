@@ -75,12 +75,8 @@ HOLLOW = {
 }
 # Of two sides the starts are the same, and the rest is not shown.
 CUT = re.compile(r"the first \d+ bytes of the two types are identical")
-# The goals of a function, by their kinds: what it promises, at a return; what a loop keeps, and that it ends; what a callee asks; and
-# that each step is safe.
-NEED = re.compile(
-    r"(?:returns|loop-\w+-(?:init|preserved|smaller)|decreases|(?:overflow|nonzero|float|int|truncating)_\w+|(?:\w+_)?bounds|shape_of)(?:-.*)?"
-    r"|.*-requires(?:-.*)?"
-)
+# A return or a loop: what a function promises, and what a loop keeps, and that it ends.
+NEED = re.compile(r"(?:returns|loop-\w+-(?:init|preserved|smaller)|decreases)(?:-.*)?")
 HEAD = re.compile(r"(?:note: (?=\S+:\d+:\d+: ))?(?:(?:\./)?([^\s:]+):(\d+):\d+: (?!note: )|(?=error))(.*)")
 # The files of a function's proof, by its name; those of a recursive one stand in a folder with a plus.
 OF_A_FUNCTION = re.compile(r"proofs/(.*/)?\+?([^/+]+)/(?:Answers|Invariants|Proof)\.antt")
