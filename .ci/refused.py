@@ -37,7 +37,8 @@ FORMS = {
     # They are not the same, and are shown as they are written: an argument is open, or they are too long to compute.
     "written": rf"{PRINTED}(?:{UNSEEN} )?(?:{FOLDED}.*)?{TYPES}|{TYPES}(?: {UNSEEN}(?: {FOLDED}.*)?)?$",
     # The same, where one of the two is shown computed, or both.
-    "shown": rf"{TYPES} (?:.* )?(?:one side \((?:expected|found)\) is|both types are) shown computed, as a hole's goal is",
+    "shown": rf"{TYPES} (?:.* )?(?:(?:one side \((?:expected|found)\) is|both types are) shown computed, as a hole's goal is"
+    r"|computed as far as it goes, the (?:expected|found) one begins §)",
     # The same, where what is computed is too long to be shown: its start is the same, and a part of it is not.
     "by parts": rf"{PRINTED}computed as far as they go, the first \d+ bytes of the two types are identical .*{TYPES} "
     r"compared part by part, the two types first differ at ",
