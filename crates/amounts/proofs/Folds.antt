@@ -2,17 +2,23 @@
 use Prim.Native.Nat.{ℕ, zero, suc, ◌+◌, ◌≤◌, ◌<◌}
 use native.Mathlib.Numerals.{add-one}
 use native.Mathlib.Omega.{arith}
-use mathlib.Core.Path.{◌≡◌, ◌∙◌}
+use mathlib.Core.Path.{◌≡◌, refl, ◌∙◌}
 use mathlib.Core.Bool.{Bool, true, false, cond, ◌||◌}
 use mathlib.Core.List.{List}
-use lib.ListN.{get_or}
+use lib.ListN.{length, get_or, take}
+use Rattle.std.proofs.lemmas.List.{length-take, get_or-take}
 use lib.Ieee.{Float, nan, binary32, add, lt}
+use Rattle.commons.specs.Folds.{any_to}
 use Rattle.floats.specs.Helpers.{zerof, max_of}
 use Rattle.amounts.specs.Amounts.{sum_of, largest_of, above_of, invalid, any_invalid}
 
--- the end of a loop over n places
-pub fold_end : {A : Type 0} (f : ℕ → List Float → A) (l : List Float) (i n : ℕ) (x : A) → x ≡ f i l → i ≤ n → n ≤ i → x ≡ f n l
-fold_end f l i n x e h g = let q : i ≡ n = omega arith in e ∙ rw q
+-- in the first m places of a list stands what stands in it, and a loop over them ends at the m-th
+module _ (l : List Float) (m : ℕ) where
+  pub taken : (i : ℕ) → i < length (take m l) → get_or (take m l) i nan ≡ get_or l i nan
+  taken i h = get_or-take m l i nan (omega (arith, length-take m l))
+
+  pub fold_end : {A : Type 0} (f : ℕ → List Float → A) (i n : ℕ) (x : A) → x ≡ f i l → i ≤ length (take m l) → length (take m l) ≤ i → m ≡ n → n ≤ length l → x ≡ f n l
+  fold_end f i n x e h g a b = let q : i ≡ n = omega (arith, length-take m l) in e ∙ rw q
 
 pub sum-next : (l : List Float) (i : ℕ) (x : Float) → x ≡ sum_of i l → add binary32 x (get_or l i nan) ≡ sum_of (i + 1) l
 unfolding sum_of
@@ -26,9 +32,10 @@ pub above-next : (l : List Float) (i x u : ℕ) → x ≡ above_of i l → u ≡
 unfolding above_of
 above-next l i x u e g = rw add-one (rw (g, e))
 
-pub invalid-next : (l : List Float) (i : ℕ) (x u : Bool) → x ≡ any_invalid i l → u ≡ invalid (get_or l i nan) → (x || u) ≡ any_invalid (i + 1) l
-unfolding any_invalid
-invalid-next l i x u e g = rw add-one (rw (g, e))
+pub invalid-any : (k : ℕ) (l : List Float) → any_to k (λ i. invalid (get_or l i nan)) ≡ any_invalid k l
+unfolding any_to any_invalid
+invalid-any zero l = refl
+invalid-any (suc k) l = λ j. invalid-any k l j || invalid (get_or l k nan)
 
 one_or_none : (b : Bool) → cond b 1 0 ≤ 1
 one_or_none true = omega arith

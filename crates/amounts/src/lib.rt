@@ -1,15 +1,17 @@
 // Lists of amounts, 16 places each: how they are filled, cleared and taken together. A length above 16 counts as 16.
 #![tactic(auto)]
 
-ghost use Rattle.std.specs.Prelude.{◌≡◌, cond, min};
+ghost use Rattle.std.specs.Prelude.{◌≡◌, min};
 ghost use Rattle.amounts.specs.Amounts.{of_slice, kept_to, cleared_to, sum_of, largest_of, above_of, invalid, any_invalid};
+
+use commons::copying::copy;
 
 // The amounts of a slice from place 0 on, zeros after them.
 pub fn of_slice(s: &[f32]) -> [f32; 16]
     ensures { result ≡ of_slice s.now }
 {
     let mut out: [f32; 16] = [0.0; 16];
-    commons::copying::copy_f32(&mut out, 0, s, 0, 16);
+    copy(&mut out, 0, s, 0, 16);
     out
 }
 
@@ -18,7 +20,7 @@ pub fn kept(list: [f32; 16], len: usize) -> [f32; 16]
     ensures { result ≡ kept_to len list }
 {
     let mut out: [f32; 16] = [0.0; 16];
-    commons::copying::copy_f32(&mut out, 0, &list, 0, len);
+    copy(&mut out, 0, &list, 0, len);
     out
 }
 
@@ -26,11 +28,8 @@ pub fn kept(list: [f32; 16], len: usize) -> [f32; 16]
 pub fn cleared(list: [f32; 16], len: usize) -> [f32; 16]
     ensures { result ≡ cleared_to len list }
 {
-    let n = commons::smaller(len, 16);
     let mut out = list;
-    for i in 0..n {
-        out[i] = 0.0;
-    }
+    out[..len.min(16)].fill(0.0);
     out
 }
 
@@ -38,10 +37,9 @@ pub fn cleared(list: [f32; 16], len: usize) -> [f32; 16]
 pub fn sum(list: [f32; 16], len: usize) -> f32
     ensures { result ≡ sum_of (min len 16) list }
 {
-    let n = commons::smaller(len, 16);
     let mut total: f32 = 0.0;
-    for i in 0..n {
-        total = total + list[i];
+    for x in &list[..len.min(16)] {
+        total = total + *x;
     }
     total
 }
@@ -50,28 +48,22 @@ pub fn sum(list: [f32; 16], len: usize) -> f32
 pub fn largest(list: [f32; 16], len: usize) -> f32
     ensures { result ≡ largest_of (min len 16) list }
 {
-    let n = commons::smaller(len, 16);
     let mut top: f32 = 0.0;
-    for i in 0..n {
-        top = floats::max(top, list[i]);
+    for x in &list[..len.min(16)] {
+        top = floats::max(top, *x);
     }
     top
-}
-
-fn one_if(b: bool) -> u8
-    ensures { result ≡ cond b 1 0 }
-{
-    if b { 1 } else { 0 }
 }
 
 // How many amounts are above 0.
 pub fn count_above_zero(list: [f32; 16], len: usize) -> u8
     ensures { result ≡ above_of (min len 16) list }
 {
-    let n = commons::smaller(len, 16);
     let mut count = 0u8;
-    for i in 0..n {
-        count = count + one_if(list[i] > 0.0);
+    for x in &list[..len.min(16)] {
+        if *x > 0.0 {
+            count += 1;
+        }
     }
     count
 }
@@ -87,10 +79,5 @@ pub fn is_invalid(x: f32) -> bool
 pub fn any_invalid(list: [f32; 16], len: usize) -> bool
     ensures { result ≡ any_invalid (min len 16) list }
 {
-    let n = commons::smaller(len, 16);
-    let mut any = false;
-    for i in 0..n {
-        any = any | is_invalid(list[i]);
-    }
-    any
+    list[..len.min(16)].iter().any(|x| is_invalid(*x))
 }

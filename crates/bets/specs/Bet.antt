@@ -1,5 +1,7 @@
 -- Section 6, a bet of amount a by a seat that faces f: its round bet p and stack k, the bet B and the smallest raise m.
 -- Definitions only.
+use Rattle.std.specs.Prelude.{Result, Ok, Err}
+use Rattle.refusals.specs.declared.Refusal.{Refusal}
 use Rattle.std.specs.Prelude.{Bool, cond, not, ◌&&◌, ◌||◌, List, [], ◌∷◌, Float}
 use Rattle.std.specs.Float.{binary32}
 use Rattle.std.specs.Float.Ieee.{add, sub, lt, is_nan}
@@ -8,8 +10,6 @@ use Rattle.refusals.specs.declared.GameStateError.TheVariants.{BetInvalidSize, B
 use Rattle.refusals.specs.declared.Refusal.TheVariants.{Bet}
 use Rattle.refusals.specs.Rows.{Row, row, judge, answer}
 use Rattle.bets.specs.declared.Facing.{Facing}
-use Rattle.bets.specs.declared.BetSize.{BetSize}
-use Rattle.bets.specs.declared.BetSize.TheVariants.{Pays, Refused}
 
 -- R6.1: what the seat faces
 abbrev pub facing : Float → Float → Float → Float → Facing
@@ -76,11 +76,11 @@ abbrev pub pays_for : Bool → Float → Facing → Float
 pays_for forced a f = cond forced (min_of f.stack a) (payment_of a f.round_bet f.stack)
 
 -- ---- R6.10: the answers, the payment or the first row that holds
-unfoldable pub sized : Float → Float → Facing → BetSize
-sized x e f = answer (Pays x) Refused (judge (payment_rows x e f))
+unfoldable pub sized : Float → Float → Facing → Result Float Refusal
+sized x e f = answer (Ok x) Err (judge (payment_rows x e f))
 
-unfoldable pub bet_size : Float → Facing → BetSize
-bet_size a f = answer (Pays (payment_of a f.round_bet f.stack)) Refused (judge (bet_rows a f))
+unfoldable pub bet_size : Float → Facing → Result Float Refusal
+bet_size a f = answer (Ok (payment_of a f.round_bet f.stack)) Err (judge (bet_rows a f))
 
-unfoldable pub size_for : Bool → Float → Facing → BetSize
-size_for forced a f = answer (Pays (pays_for forced a f)) Refused (judge (size_rows forced a f))
+unfoldable pub size_for : Bool → Float → Facing → Result Float Refusal
+size_for forced a f = answer (Ok (pays_for forced a f)) Err (judge (size_rows forced a f))

@@ -16,13 +16,6 @@ pub struct Facing {
     pub min_raise: f32,
 }
 
-// What a bet comes to: the payment, or why it is refused.
-#[derive(Clone, Copy)]
-pub enum BetSize {
-    Pays(f32),
-    Refused(Refusal),
-}
-
 fn invalid_size(a: f32) -> bool
     ensures { result ≡ invalid_size a }
 {
@@ -74,41 +67,41 @@ fn too_small(r: f32, e: f32, m: f32, all_in: bool) -> bool
 }
 
 // The payment x against the bet and the smallest raise.
-fn size_of(x: f32, e: f32, f: Facing) -> BetSize
+fn size_of(x: f32, e: f32, f: Facing) -> Result<f32, Refusal>
     ensures { result ≡ sized x e f }
 {
     let y = f.round_bet + x;
     let all_in = is_all_in(x, f.stack);
     if doesnt_call(y, e, f.bet, all_in) {
-        return BetSize::Refused(Refusal::Bet(GameStateError::BetSizeDoesntCall));
+        return Err(GameStateError::BetSizeDoesntCall.into());
     }
     if too_small(raise_by(y, f.bet), e, f.min_raise, all_in) {
-        return BetSize::Refused(Refusal::Bet(GameStateError::RaiseSizeTooSmall));
+        return Err(GameStateError::RaiseSizeTooSmall.into());
     }
-    BetSize::Pays(x)
+    Ok(x)
 }
 
-pub fn validate_bet_amount(a: f32, f: Facing) -> BetSize
+pub fn validate_bet_amount(a: f32, f: Facing) -> Result<f32, Refusal>
     ensures { result ≡ bet_size a f }
 {
     if invalid_size(a) {
-        return BetSize::Refused(Refusal::Bet(GameStateError::BetInvalidSize));
+        return Err(GameStateError::BetInvalidSize.into());
     }
     let e = slack(a, f.bet);
     if doesnt_call_self(a, e, f.round_bet) {
-        return BetSize::Refused(Refusal::Bet(GameStateError::BetSizeDoesntCallSelf));
+        return Err(GameStateError::BetSizeDoesntCallSelf.into());
     }
     size_of(payment(a, f.round_bet, f.stack), e, f)
 }
 
 // Never refused for its size.
-pub fn validate_forced_bet_amount(a: f32, f: Facing) -> BetSize
+pub fn validate_forced_bet_amount(a: f32, f: Facing) -> Result<f32, Refusal>
     ensures { result ≡ size_for true a f }
 {
-    BetSize::Pays(floats::min(f.stack, a))
+    Ok(floats::min(f.stack, a))
 }
 
-pub fn validate(is_forced: bool, a: f32, f: Facing) -> BetSize
+pub fn validate(is_forced: bool, a: f32, f: Facing) -> Result<f32, Refusal>
     ensures { result ≡ size_for is_forced a f }
 {
     if is_forced {

@@ -4,9 +4,8 @@ use Prim.Native.Nat.{ℕ}
 use native.Mathlib.Omega.{arith}
 use mathlib.Core.Path.{◌≡◌, refl, ◌∙◌}
 use mathlib.Core.Bool.{true}
-use Rattle.refusals.specs.declared.Verdict.{Verdict}
-use Rattle.refusals.specs.declared.Verdict.TheVariants.{Stands, Refused}
-use Rattle.refusals.specs.Rows.{judge, answer}
+use Rattle.std.specs.Prelude.{Ok, Err}
+use Rattle.refusals.specs.Rows.{Verdict, judge, answer}
 use Rattle.refusals.proofs.Rows.{answer-of}
 use Rattle.keys.specs.declared.HandKey.{HandKey}
 use Rattle.keys.specs.Keys.{is_good}
@@ -20,10 +19,10 @@ use Rattle.builder.specs.Build.{small_blind_of, data_for, built_of, rows_for, bu
 use Rattle.builder.specs.Setters.{with_key}
 
 -- ---- an accepted build carries what was told
-pub build-carries : (b : GameStateBuilder) → (build_of b).answer ≡ Stands → (build_of b).table.added ≡ b.added
+pub build-carries : (b : GameStateBuilder) → (build_of b).answer ≡ Ok tt → (build_of b).table.added ≡ b.added
 unfolding build_of built_of
 build-carries b =
-    answer-of (built_step b) not_built (λ (s : BuildStep). s.answer ≡ Stands → s.table.added ≡ b.added) (judge (build_rows b)) (λ v e. refl)
+    answer-of (built_step b) not_built (λ (s : BuildStep). s.answer ≡ Ok tt → s.table.added ≡ b.added) (judge (build_rows b)) (λ v e. refl)
     (λ r e. absurd (let z : ◌≡◌ {A = ℕ} 0 1 = cc in omega arith))
 
 -- ---- a build with another key: zeros have none
@@ -44,8 +43,8 @@ module _ (b : GameStateBuilder) (k : HandKey) (g : good_added b.added ≡ true) 
   judged = λ i. judge (rows_for b (sound-same i))
 
   given : (v : Verdict) → answer (built_step (with_key b k)) not_built v ≡ build_rekeyed k (answer (built_step b) not_built v)
-  given Stands = λ i. record { answer = Stands; table = built_apart i }
-  given (Refused r) = refl
+  given (Ok _) = λ i. record { answer = Ok tt; table = built_apart i }
+  given (Err r) = refl
 
   pub build_apart : build_of (with_key b k) ≡ build_rekeyed k (build_of b)
   unfolding build_of

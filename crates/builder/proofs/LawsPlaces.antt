@@ -5,14 +5,15 @@ use mathlib.Core.Path.{◌≡◌, ◌∙◌}
 use mathlib.Core.List.{List}
 use lib.ListN.{get_or, replicate, get_or-replicate}
 use lib.Ieee.{Float, nan}
-use Rattle.commons.proofs.Bools.{pick}
+use Rattle.std.specs.Prelude.{Option, Some, None}
+use Rattle.std.specs.Option.{option_map_or}
 use Rattle.commons.proofs.Filled.{filled-out}
 use Rattle.floats.specs.Helpers.{zerof}
 use Rattle.amounts.specs.Amounts.{zeros, kept_to}
 use Rattle.rounds.specs.declared.RoundData.{RoundData}
 use Rattle.table.specs.declared.GameState.{GameState}
 use Rattle.builder.specs.declared.GameStateBuilder.{GameStateBuilder}
-use Rattle.builder.specs.Build.{seats_of, board_len_of, dealer_of, data_for, built_of}
+use Rattle.builder.specs.Build.{stacks_told, board_told, seats_of, board_len_of, dealer_of, data_kept, data_for, built_of}
 use Rattle.builder.specs.Cards.{cards_to}
 
 -- zero from place n on
@@ -36,18 +37,24 @@ kept-zero n l j h k = filled-out zeros (λ i. get_or l i nan) (min n 16) j nan (
 cards-zero : (n : ℕ) (l : List ℕ) (j : ℕ) → n ≤ j → j < 5 → get_or (cards_to n l) j 0 ≡ 0
 cards-zero n l j h k = filled-out (replicate 5 0) (λ i. get_or l i 0) (min n 5) j 0 (omega arith) ∙ get_or-replicate 5 j 0 0 k
 
+-- of what is made of a value, or of none, what holds of both
+mapped : {A B : Type 0} (P : B → Type 0) (f : A → B) (o : Option A) (d : B) → ((x : A) → P (f x)) → P d → P (option_map_or f o d)
+mapped P f None d p q = q
+mapped P f (Some x) d p q = p x
+
 module _ (b : GameStateBuilder) where
   data_zero : (dealer : ℕ) → ZeroFrom (seats_of b) (data_for b dealer).player_bet
   unfolding data_for
-  data_zero dealer = pick (λ (d : RoundData). ZeroFrom (seats_of b) d.player_bet) b.round_data.given _ _ (kept-zero (seats_of b) b.round_data.value.player_bet) (λ j h. zeros-at j)
+  data_zero dealer =
+      mapped (λ (d : RoundData). ZeroFrom (seats_of b) d.player_bet) (data_kept (seats_of b)) b.round_data _ (λ d. kept-zero (seats_of b) d.player_bet) (λ j h. zeros-at j)
 
   pub built-cleared : Cleared (built_of b)
   unfolding built_of
   built-cleared = record {
-    stacks = kept-zero (seats_of b) b.stacks.list;
-    starting = kept-zero (seats_of b) b.stacks.list;
-    bets = pick (ZeroFrom (seats_of b)) b.player_bet.given _ _ (kept-zero (seats_of b) b.player_bet.list) (λ j h. zeros-at j);
+    stacks = kept-zero (seats_of b) (stacks_told b).list;
+    starting = kept-zero (seats_of b) (stacks_told b).list;
+    bets = mapped (ZeroFrom (seats_of b)) (λ g. kept_to (seats_of b) g.list) b.player_bet _ (λ g. kept-zero (seats_of b) g.list) (λ j h. zeros-at j);
     winnings = λ j h. zeros-at j;
     round = data_zero (dealer_of b);
-    board = cards-zero (board_len_of b) b.board.list;
+    board = cards-zero (board_len_of b) (board_told b).list;
   }

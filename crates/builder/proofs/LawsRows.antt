@@ -2,28 +2,22 @@
 -- zeros; an accepted one is sound, since its last row is soundness itself. Assumes nothing.
 use Prim.Native.Nat.{ℕ, min}
 use native.Mathlib.Omega.{arith}
-use mathlib.Core.Path.{◌≡◌, refl, sym}
+use mathlib.Core.Path.{◌≡◌, refl}
 use mathlib.Core.Logic.{◌≢◌}
-use mathlib.Core.Bool.{Bool, true, false, not}
+use mathlib.Core.Bool.{true, false, not}
 use mathlib.Core.List.{[], ◌∷◌, ◌++◌}
+use Rattle.std.specs.Prelude.{Ok}
 use Rattle.commons.proofs.Bools.{turned}
 use Rattle.refusals.specs.declared.Refusal.TheVariants.{Added}
 use Rattle.refusals.specs.declared.AddedError.TheVariants.{BadRecord}
-use Rattle.refusals.specs.declared.Verdict.TheVariants.{Stands}
-use Rattle.refusals.specs.Rows.{row, judge_then, judge, verdict_number}
-use Rattle.refusals.proofs.Rows.{judge-joined, answer-number, answer-of, fails-at, later-stands}
+use Rattle.refusals.specs.Rows.{row, judge, verdict_number}
+use Rattle.refusals.proofs.Rows.{answer-number, answer-of, fails-at, later-stands}
 use Rattle.table.specs.Sound.{sound_of}
 use Rattle.table.specs.With.{no_table}
 use Rattle.builder.specs.declared.GameStateBuilder.{GameStateBuilder}
 use Rattle.builder.specs.declared.BuildStep.{BuildStep}
-use Rattle.builder.specs.Build.{board_len_of, built_of, told_rows, amount_rows, list_rows, rows_for, build_rows, built_step, not_built, build_of}
+use Rattle.builder.specs.Build.{board_told, board_len_of, built_of, told_rows, amount_rows, list_rows, build_rows, built_step, not_built, build_of}
 use Rattle.builder.specs.Cards.{card_rows}
-
--- ---- the rows as the code goes through them
-module _ (b : GameStateBuilder) (sound : Bool) where
-  pub rows_judged : judge_then (told_rows b) (judge_then (amount_rows b) (judge_then (list_rows b) (judge_then (card_rows (min (board_len_of b) 5) 0 b.board.list) (judge (row (not sound) (Added BadRecord) ∷ [])))))
-      ≡ judge (rows_for b sound)
-  rows_judged = λ i. judge_then (told_rows b) (judge_then (amount_rows b) (judge_then (list_rows b) (sym (judge-joined (card_rows (min (board_len_of b) 5) 0 b.board.list) (row (not sound) (Added BadRecord) ∷ [])) i)))
 
 -- ---- what they say of a build
 module _ (b : GameStateBuilder) where
@@ -37,17 +31,17 @@ module _ (b : GameStateBuilder) where
   build-zeros = answer-of (built_step b) not_built (λ (s : BuildStep). verdict_number s.answer ≢ 0 → s.table ≡ no_table) (judge (build_rows b)) (λ e h. absurd (h refl)) (λ r h. refl)
 
   -- past all rows but the last
-  is-sound : judge (build_rows b) ≡ Stands → sound_of (built_of b) ≡ true
+  is-sound : judge (build_rows b) ≡ Ok tt → sound_of (built_of b) ≡ true
   is-sound e =
-      let cards = card_rows (min (board_len_of b) 5) 0 b.board.list in
+      let cards = card_rows (min (board_len_of b) 5) 0 (board_told b).list in
       let last = row (not (sound_of (built_of b))) (Added BadRecord) ∷ [] in
       let past-told = later-stands (told_rows b) (amount_rows b ++ (list_rows b ++ (cards ++ last))) e in
       let past-amounts = later-stands (amount_rows b) (list_rows b ++ (cards ++ last)) past-told in
       let past-lists = later-stands (list_rows b) (cards ++ last) past-amounts in
       turned (sound_of (built_of b)) false (fails-at last (later-stands cards last past-lists) 0)
 
-  pub build-sound : (build_of b).answer ≡ Stands → sound_of (build_of b).table ≡ true
+  pub build-sound : (build_of b).answer ≡ Ok tt → sound_of (build_of b).table ≡ true
   unfolding build_of
   build-sound =
-      answer-of (built_step b) not_built (λ (s : BuildStep). s.answer ≡ Stands → sound_of s.table ≡ true) (judge (build_rows b)) (λ e h. is-sound e)
+      answer-of (built_step b) not_built (λ (s : BuildStep). s.answer ≡ Ok tt → sound_of s.table ≡ true) (judge (build_rows b)) (λ e h. is-sound e)
       (λ r h. absurd (let z : ◌≡◌ {A = ℕ} 0 1 = cc in omega arith))

@@ -1,4 +1,6 @@
 pub mod Building
+pub mod Alike
+pub mod Order
 pub mod LawsKey
 pub mod LawsPlaces
 pub mod LawsRows

@@ -3,6 +3,7 @@
 use Prim.Native.Nat.{ℕ}
 use mathlib.Core.Path.{◌≡◌, refl}
 use mathlib.Core.Bool.{Bool, true, false}
+use Rattle.std.specs.Prelude.{Some, None}
 use mathlib.Core.List.{List, [], ◌∷◌, ◌++◌, map}
 use lib.Dec.{eqb}
 use lib.IntN.{pos}
@@ -24,7 +25,7 @@ use Rattle.table.specs.Sound.{sound_frame, board_ok, cards_ok}
 use Rattle.builder.specs.declared.GameStateBuilder.{GameStateBuilder}
 use Rattle.builder.specs.Build.{small_blind_of, data_for, built_of, build_of}
 use Rattle.builder.specs.Cards.{seen_to, card_rows}
-use Rattle.builder.specs.Setters.{nothing, no_amount, no_amounts, the_amount, the_amounts, the_number, with_stacks, with_big_blind, with_small_blind, with_ante, with_dealer, with_round, with_board, with_hands, with_bets, with_data, with_key}
+use Rattle.builder.specs.Setters.{nothing, the_amounts, with_stacks, with_big_blind, with_small_blind, with_ante, with_dealer, with_round, with_board, with_hands, with_bets, with_data, with_key}
 
 chips : ℕ → Float
 chips n = of_int binary32 (pos n)
@@ -37,26 +38,26 @@ stacks b l = with_stacks b (the_amounts l)
 
 -- two stacks of 100 and a big blind of 10 are enough
 good : GameStateBuilder
-good = with_big_blind (stacks nothing (chips 100 ∷ chips 100 ∷ [])) (the_amount (chips 10))
+good = with_big_blind (stacks nothing (chips 100 ∷ chips 100 ∷ [])) (Some (chips 10))
 
 -- ---- a fault for each number
 no-stacks : GameStateBuilder → GameStateBuilder
-no-stacks b = with_stacks b no_amounts
+no-stacks b = with_stacks b None
 
 no_blind : GameStateBuilder → GameStateBuilder
-no_blind b = with_big_blind b no_amount
+no_blind b = with_big_blind b None
 
 one-seat : GameStateBuilder → GameStateBuilder
 one-seat b = stacks b (chips 100 ∷ [])
 
 zero_blind : GameStateBuilder → GameStateBuilder
-zero_blind b = with_big_blind b (the_amount zerof)
+zero_blind b = with_big_blind b (Some zerof)
 
 bad-small : GameStateBuilder → GameStateBuilder
-bad-small b = with_small_blind b (the_amount less)
+bad-small b = with_small_blind b (Some less)
 
 bad-ante : GameStateBuilder → GameStateBuilder
-bad-ante b = with_ante b (the_amount nan)
+bad-ante b = with_ante b (Some nan)
 
 bad-stack : GameStateBuilder → GameStateBuilder
 bad-stack b = stacks b (less ∷ chips 100 ∷ chips 100 ∷ [])
@@ -65,10 +66,10 @@ one_left : GameStateBuilder → GameStateBuilder
 one_left b = stacks b (zerof ∷ chips 100 ∷ [])
 
 far_dealer : GameStateBuilder → GameStateBuilder
-far_dealer b = with_dealer b (the_number 2)
+far_dealer b = with_dealer b (Some 2)
 
 three-hands : GameStateBuilder → GameStateBuilder
-three-hands b = with_hands b (the_number 3)
+three-hands b = with_hands b (Some 3)
 
 one-bet : GameStateBuilder → GameStateBuilder
 one-bet b = with_bets b (the_amounts (chips 5 ∷ []))
@@ -133,8 +134,8 @@ neighbours =
     ∷ gives 18 (bad_data (with_board good (1 ∷ 2 ∷ 52 ∷ [])))
     -- 17 stacks and a big blind of 0; -0.0 as big blind, small blind and stack
     ∷ gives 3 (zero_blind (stacks good (replicate 17 (chips 100))))
-    ∷ gives 5 (with_big_blind good (the_amount (fin true 0 (pos 0))))
-    ∷ gives 0 (with_small_blind (stacks good (chips 1 ∷ chips 1 ∷ fin true 0 (pos 0) ∷ [])) (the_amount (fin true 0 (pos 0))))
+    ∷ gives 5 (with_big_blind good (Some (fin true 0 (pos 0))))
+    ∷ gives 0 (with_small_blind (stacks good (chips 1 ∷ chips 1 ∷ fin true 0 (pos 0) ∷ [])) (Some (fin true 0 (pos 0))))
     ∷ []
 
 -- ---- what accepted builds hold: small blind, pot, active, all in and owing seats, cap

@@ -1,42 +1,49 @@
 // A hand appended to a file: whole, by one write, and synced. Where that fails the file is cut back to what stood before.
 use crate::cards::BLOCK;
-use crate::statuses::{DONE, FAILED};
-use crate::telling::{fail, say, say_key, say_number};
-use crate::{cards, inputs, numbers};
+use crate::statuses::Failure;
+use crate::telling::{fail, say, say_bytes};
+use crate::texts::KeyText;
+use crate::{cards, inputs};
 use keys::HandKey;
 use std::fs::File;
-use std::io::{Error, Result, Write};
+use std::io;
+use std::io::{Error, Write};
 
-fn say_hand(rt: &HostRuntime, key: HandKey, what: &[u8]) {
-    say(rt, b"journal: hand ");
-    say_key(rt, key);
-    say(rt, what);
+// Where hands are appended: a file, and the path that it was opened by.
+#[derive(Clone, Copy)]
+pub struct Target<'a> {
+    pub path: &'a [u8],
+    pub file: &'a File,
+}
+
+// Why a hand is not appended: another program has changed the file, the write failed or took only so many bytes, or the sync failed.
+#[derive(Clone, Copy)]
+enum NotAppended {
+    Changed,
+    NotWritten(Error),
+    Short(usize),
+    NotSynced(usize, Error),
 }
 
 // What another program has put there is not cut off.
 fn not_cut_back(rt: &HostRuntime, path: &[u8]) {
     say(
         rt,
-        b"journal: another program has written behind what stood, so nothing is cut back: ",
+        "journal: another program has written behind what stood, so nothing is cut back: ",
     );
-    say(rt, path);
-    say(rt, b"\n");
+    say_bytes(rt, path);
+    say(rt, "\n");
 }
 
 // The newest reason: why the size is not told, why the length was not set, or else what failed before.
-fn reason_of(size: Result<usize>, cut: Result<()>, before: Error) -> Error {
-    match size {
-        Ok(_) => match cut {
-            Ok(()) => before,
-            Err(error) => error,
-        },
-        Err(error) => error,
-    }
+fn reason_of(size: io::Result<usize>, cut: io::Result<()>, before: Error) -> Error {
+    size.err().or(cut.err()).unwrap_or(before)
 }
 
 // Cuts off the bytes that were put behind those that stood. A device has no length to be set, so that the size decides whether all is as before.
-fn cut_back(rt: &HostRuntime, path: &[u8], file: &File, stood: usize, put: usize, before: Error) {
-    if numbers::plus(stood, put) < cards::size_of(file) {
+fn cut_back(rt: &HostRuntime, to: Target<'_>, stood: usize, put: usize, before: Error) {
+    let Target { path, file } = to;
+    if stood.saturating_add(put) < cards::size_of(file) {
         not_cut_back(rt, path);
         return;
     }
@@ -45,100 +52,75 @@ fn cut_back(rt: &HostRuntime, path: &[u8], file: &File, stood: usize, put: usize
     if size.unwrap_or(0) != stood {
         say(
             rt,
-            b"journal: that hand may stand there, and the file cannot be cut back: ",
+            "journal: that hand may stand there, and the file cannot be cut back: ",
         );
         fail(rt, path, reason_of(size, cut, before));
         return;
     }
     if let Err(error) = file.sync_all() {
-        say(rt, b"journal: cutting it back is not synced: ");
+        say(rt, "journal: cutting it back is not synced: ");
         fail(rt, path, error);
     }
-    say(rt, b"journal: ");
-    say(rt, path);
-    say(rt, b" is cut back to what stood before that hand: blocks ");
-    say_number(rt, (stood / BLOCK) as u64);
-    say(rt, b"\n");
+    say(rt, "journal: ");
+    say_bytes(rt, path);
+    let blocks = stood / BLOCK;
+    let _ = eprintln!(rt; " is cut back to what stood before that hand: blocks {blocks}");
 }
 
-// A write that fails puts nothing there.
-fn not_written(
-    rt: &HostRuntime,
-    path: &[u8],
-    file: &File,
-    key: HandKey,
-    stood: usize,
-    error: Error,
-) -> u8 {
-    say_hand(rt, key, b" is not written: ");
-    fail(rt, path, error);
-    cut_back(rt, path, file, stood, 0, error);
-    FAILED
+// The bytes of a hand behind so many that stand. Behind what another program has put there nothing is appended: nobody has checked it.
+fn write_synced(mut file: &File, hand: &[u8], stood: usize) -> Result<(), NotAppended> {
+    if cards::size_of(file) != stood {
+        return Err(NotAppended::Changed);
+    }
+    let put = file.write(hand).map_err(NotAppended::NotWritten)?;
+    if put < hand.len() {
+        return Err(NotAppended::Short(put));
+    }
+    file.sync_all()
+        .map_err(|error| NotAppended::NotSynced(put, error))
 }
 
-// A write that takes a part tells no reason.
-fn short_write(
-    rt: &HostRuntime,
-    path: &[u8],
-    file: &File,
-    key: HandKey,
-    stood: usize,
-    put: usize,
-) -> u8 {
-    say_hand(rt, key, b" is not written: ");
-    say(rt, path);
-    say(rt, b": no room for more than ");
-    say_number(rt, put as u64);
-    say(rt, b" bytes of it\n");
-    cut_back(rt, path, file, stood, put, Error::from_raw_os_error(0));
-    FAILED
+fn tell(rt: &HostRuntime, to: Target<'_>, key: HandKey, stood: usize, why: NotAppended) {
+    let key = KeyText(key);
+    match why {
+        NotAppended::Changed => {
+            let _ = eprint!(rt; "journal: hand {key} is not written: another program has changed ");
+            say_bytes(rt, to.path);
+            say(rt, "\n");
+        }
+        // A write that fails puts nothing there.
+        NotAppended::NotWritten(error) => {
+            let _ = eprint!(rt; "journal: hand {key} is not written: ");
+            fail(rt, to.path, error);
+            cut_back(rt, to, stood, 0, error);
+        }
+        // A write that takes a part tells no reason.
+        NotAppended::Short(put) => {
+            let _ = eprint!(rt; "journal: hand {key} is not written: ");
+            say_bytes(rt, to.path);
+            let _ = eprintln!(rt; ": no room for more than {put} bytes of it");
+            cut_back(rt, to, stood, put, Error::from_raw_os_error(0));
+        }
+        NotAppended::NotSynced(put, error) => {
+            let _ = eprint!(rt; "journal: hand {key} is not synced: ");
+            fail(rt, to.path, error);
+            cut_back(rt, to, stood, put, error);
+        }
+    }
 }
 
-fn not_synced(
-    rt: &HostRuntime,
-    path: &[u8],
-    file: &File,
-    key: HandKey,
-    stood: usize,
-    put: usize,
-    error: Error,
-) -> u8 {
-    say_hand(rt, key, b" is not synced: ");
-    fail(rt, path, error);
-    cut_back(rt, path, file, stood, put, error);
-    FAILED
-}
-
-// Behind what another program has put there nothing is appended: nobody has checked it.
-fn is_changed(rt: &HostRuntime, path: &[u8], key: HandKey) -> u8 {
-    say_hand(rt, key, b" is not written: another program has changed ");
-    say(rt, path);
-    say(rt, b"\n");
-    FAILED
-}
-
-// The bytes of a hand behind so many that stand.
 pub fn append(
     rt: &HostRuntime,
-    path: &[u8],
-    mut file: &File,
+    to: Target<'_>,
     key: HandKey,
     hand: &[u8],
     stood: usize,
-) -> u8 {
-    if cards::size_of(file) != stood {
-        return is_changed(rt, path, key);
+) -> Result<(), Failure> {
+    match write_synced(to.file, hand, stood) {
+        Ok(()) => Ok(()),
+        Err(why) => {
+            tell(rt, to, key, stood, why);
+            Err(Failure::Failed)
+        }
     }
-    let answer = file.write(hand);
-    let put = match answer {
-        Ok(n) => n,
-        Err(error) => return not_written(rt, path, file, key, stood, error),
-    };
-    if put < hand.len() {
-        return short_write(rt, path, file, key, stood, put);
-    }
-    if let Err(error) = file.sync_all() {
-        return not_synced(rt, path, file, key, stood, put, error);
-    }
-    DONE
 }

@@ -1,16 +1,15 @@
 // The arguments: where the status goes, the command, the file, and for `read` the three numbers of a key.
-use crate::numbers::NO_NUMBER;
-use crate::{numbers, statuses};
+use crate::statuses;
 use keys::HandKey;
 use std::env::FillError;
 use std::rt::Env;
+use std::str;
 
-// The status goes to nobody, to a descriptor that was open before any file was, or cannot be told.
+// The status goes to nobody, or to a descriptor that was open before any file was.
 #[derive(Clone, Copy)]
 pub enum StatusTo {
     Nobody,
-    Descriptor(u64),
-    Nowhere,
+    Descriptor(u32),
 }
 
 #[derive(Clone, Copy)]
@@ -18,103 +17,83 @@ pub enum Command {
     Record,
     Read(HandKey),
     List,
-    Wrong,
 }
 
 // The most arguments that a command has, the program's own name among them.
 const MOST: usize = 7;
 
-pub fn is_word(word: &[u8], other: &[u8]) -> bool {
-    (word.len() == other.len()) & commons::comparing::stands_at(word, 0, other)
+// The number, if a word is one to 4,294,967,295 in the form of a script: digits alone, and no zero before others.
+fn number_of(word: &[u8]) -> Option<u32> {
+    let text = str::from_utf8(word).ok()?;
+    let is_padded = 1 < text.len() && text.starts_with('0');
+    if is_padded || text.starts_with('+') {
+        return None;
+    }
+    text.parse().ok()
 }
 
 // The status can be told where a descriptor is open for writing.
-fn descriptor(rt: &HostRuntime, fd: u64) -> StatusTo {
-    if !statuses::is_open_to_write(rt, fd) {
-        return StatusTo::Nowhere;
+fn status_of(rt: &HostRuntime, word: &[u8]) -> Option<StatusTo> {
+    if word == b"-".as_slice() {
+        return Some(StatusTo::Nobody);
     }
-    StatusTo::Descriptor(fd)
+    let fd = number_of(word)?;
+    if fd < 1024 && statuses::is_open_to_write(rt, fd) {
+        return Some(StatusTo::Descriptor(fd));
+    }
+    None
 }
 
-fn status_of(rt: &HostRuntime, word: &[u8]) -> StatusTo {
-    if is_word(word, b"-") {
-        return StatusTo::Nobody;
-    }
-    let n = numbers::number_of(word);
-    if n < 1024 {
-        return descriptor(rt, n);
-    }
-    StatusTo::Nowhere
-}
-
-pub fn status_to(rt: &HostRuntime) -> StatusTo {
+// Where the status goes, if it can be told.
+pub fn status_to(rt: &HostRuntime) -> Option<StatusTo> {
     let mut word = [0u8; 16];
-    match rt.arg(1, &mut word) {
-        Ok(n) => status_of(rt, &word[..n]),
-        Err(_) => StatusTo::Nowhere,
-    }
+    let n = rt.arg(1, &mut word).ok()?;
+    status_of(rt, &word[..n])
 }
 
-fn number_at(rt: &HostRuntime, i: usize) -> u64 {
+fn number_at(rt: &HostRuntime, i: usize) -> Option<u32> {
     let mut word = [0u8; 16];
-    match rt.arg(i, &mut word) {
-        Ok(n) => numbers::number_of(&word[..n]),
-        Err(_) => NO_NUMBER,
-    }
+    let n = rt.arg(i, &mut word).ok()?;
+    number_of(&word[..n])
 }
 
-fn key_command(rt: &HostRuntime) -> Command {
-    let code = number_at(rt, 4);
-    let year = number_at(rt, 5);
-    let hand = number_at(rt, 6);
-    if (code <= 65535) & (year <= 65535) & (hand < NO_NUMBER) {
-        return Command::Read(HandKey {
-            code: (code % 65536) as u16,
-            year: (year % 65536) as u16,
-            hand: (hand % 4294967296) as u32,
-        });
-    }
-    Command::Wrong
+fn key_asked(rt: &HostRuntime) -> Option<HandKey> {
+    let code = u16::try_from(number_at(rt, 4)?).ok()?;
+    let year = u16::try_from(number_at(rt, 5)?).ok()?;
+    let hand = number_at(rt, 6)?;
+    Some(HandKey { code, year, hand })
 }
 
 // A command with so many arguments, the program's own name among them.
-fn command_of(rt: &HostRuntime, word: &[u8], count: usize) -> Command {
-    if is_word(word, b"record") & (count == 4) {
-        return Command::Record;
+fn command_of(rt: &HostRuntime, word: &[u8], count: usize) -> Option<Command> {
+    if word == b"record".as_slice() && count == 4 {
+        return Some(Command::Record);
     }
-    if is_word(word, b"list") & (count == 4) {
-        return Command::List;
+    if word == b"list".as_slice() && count == 4 {
+        return Some(Command::List);
     }
-    if is_word(word, b"read") & (count == MOST) {
-        return key_command(rt);
+    if word == b"read".as_slice() && count == MOST {
+        return Some(Command::Read(key_asked(rt)?));
     }
-    Command::Wrong
+    None
 }
 
 // Whether there is such an argument, however long.
 fn is_given(rt: &HostRuntime, i: usize) -> bool {
     let mut none = [0u8; 1];
-    match rt.arg(i, &mut none) {
-        Ok(_) => true,
-        Err(FillError::TooLong) => true,
-        Err(FillError::NotPresent) => false,
-    }
+    !matches!(rt.arg(i, &mut none), Err(FillError::NotPresent))
 }
 
 // How many arguments there are, the program's own name among them: one more than the most where there are too many.
 fn arg_count(rt: &HostRuntime) -> usize {
-    for i in 0..=MOST {
-        if !is_given(rt, i) {
-            return i;
-        }
-    }
-    MOST + 1
+    (0..=MOST)
+        .position(|i| !is_given(rt, i))
+        .unwrap_or(MOST + 1)
 }
 
-pub fn asked(rt: &HostRuntime) -> Command {
+// The command, or none where the arguments are no command's.
+pub fn asked(rt: &HostRuntime) -> Option<Command> {
     let mut word = [0u8; 16];
-    match rt.arg(2, &mut word) {
-        Ok(n) => command_of(rt, &word[..n], arg_count(rt)),
-        Err(_) => Command::Wrong,
-    }
+    let n = rt.arg(2, &mut word).ok()?;
+    command_of(rt, &word[..n], arg_count(rt))
 }

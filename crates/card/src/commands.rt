@@ -1,22 +1,24 @@
 // The command that is asked, obeyed.
 use crate::arguments::Command;
+use crate::statuses::Failure;
 use crate::{arguments, finding, listing, recording, telling};
 use std::rt::Env;
 
-fn obey(rt: &HostRuntime, command: Command, path: &[u8]) -> u8 {
+fn obey(rt: &HostRuntime, command: Command, path: &[u8]) -> Result<(), Failure> {
     match command {
         Command::Record => recording::record(rt, path),
         Command::Read(key) => finding::read(rt, path, key),
         Command::List => listing::list(rt, path),
-        Command::Wrong => telling::wrong_use(rt),
     }
 }
 
-pub fn run(rt: &HostRuntime) -> u8 {
-    let command = arguments::asked(rt);
+pub fn run(rt: &HostRuntime) -> Result<(), Failure> {
+    let Some(command) = arguments::asked(rt) else {
+        return Err(telling::wrong_use(rt));
+    };
     let mut path = [0u8; 4096];
     match rt.arg(3, &mut path) {
         Ok(n) => obey(rt, command, &path[..n]),
-        Err(_) => telling::wrong_use(rt),
+        Err(_) => Err(telling::wrong_use(rt)),
     }
 }

@@ -3,7 +3,7 @@ use std::fs::{File, OpenOptions};
 use std::io::{Error, Result};
 use std::str;
 
-// C's numbers of some errors.
+// C's numbers of some errors: the library has no kind for each of them.
 pub const ENOENT: i32 = 2;
 
 pub const EIO: i32 = 5;
@@ -23,6 +23,7 @@ fn open(rt: &HostRuntime, how: &OpenOptions, path: &[u8]) -> Result<File> {
     }
 }
 
+// The ways to open: each is its options under a name, which is plainer than options at each call.
 pub fn open_read(rt: &HostRuntime, path: &[u8]) -> Result<File> {
     let mut how = OpenOptions::new();
     how.read(true);
@@ -52,8 +53,5 @@ pub fn create(rt: &HostRuntime, path: &[u8]) -> Result<File> {
 
 // Whether C tells that error by this number.
 pub fn is_error(error: Error, number: i32) -> bool {
-    match error.raw_os_error() {
-        Some(code) => code == number,
-        None => false,
-    }
+    error.raw_os_error() == Some(number)
 }

@@ -1,17 +1,24 @@
 // Reading until a room is full, the input ends or a read fails.
-use crate::numbers;
 use std::fs::File;
-use std::io::{Error, Read, Result, Stdin};
+use std::io::{Error, Read, Result};
 use std::os::unix::fs::FileExt;
 
-// Where bytes come from: what a stream has to come, or a file from a place on.
+// What a file has from a place on.
 #[derive(Clone, Copy)]
-pub enum Source<'a> {
-    Stream(Stdin),
-    From(&'a File, usize),
+pub struct FilePart<'a> {
+    pub file: &'a File,
+    pub at: usize,
 }
 
-// How much was read, and why a read failed behind it, if one did.
+impl Read for FilePart<'_> {
+    fn read(&mut self, out: &mut [u8]) -> Result<usize> {
+        let n = self.file.read_at(out, place_of(self.at))?;
+        self.at = self.at.saturating_add(n);
+        Ok(n)
+    }
+}
+
+// How much was read, and why a read failed behind it, if one did: what stands before the failure is used too.
 #[derive(Clone, Copy)]
 pub struct Got {
     pub bytes: usize,
@@ -20,51 +27,26 @@ pub struct Got {
 
 // A place of a file, as C counts it.
 pub fn place_of(at: usize) -> u64 {
-    if at < 9_223_372_036_854_775_808 {
-        return at as u64;
-    }
-    9_223_372_036_854_775_807
+    (at as u64).min(9_223_372_036_854_775_807)
 }
 
-// One read, behind so many bytes that were read before.
-fn answer_of(source: Source<'_>, bytes: usize, part: &mut [u8]) -> Result<usize> {
-    match source {
-        Source::Stream(mut input) => input.read(part),
-        Source::From(file, start) => file.read_at(part, place_of(numbers::plus(start, bytes))),
-    }
-}
-
-fn read_some(source: Source<'_>, bytes: usize, part: &mut [u8]) -> Got {
-    match answer_of(source, bytes, part) {
-        Ok(n) => Got {
-            bytes: n,
-            failed: None,
-        },
-        Err(error) => Got {
-            bytes: 0,
-            failed: Some(error),
-        },
-    }
-}
-
-// No turn but the last reads nothing.
-pub fn read_full(source: Source<'_>, room: &mut [u8]) -> Got {
+// No turn but the last reads nothing. Of what came before a failure read_exact and read_to_end do not tell, and it counts.
+pub fn read_full(source: &mut impl Read, room: &mut [u8]) -> Got {
     let mut bytes: usize = 0;
     for _ in 0..room.len() {
         if room.len() <= bytes {
             break;
         }
-        let got = read_some(source, bytes, &mut room[bytes..]);
-        if got.failed.is_some() {
-            return Got {
-                bytes,
-                failed: got.failed,
-            };
+        match source.read(&mut room[bytes..]) {
+            Ok(0) => break,
+            Ok(n) => bytes = bytes.saturating_add(n),
+            Err(error) => {
+                return Got {
+                    bytes,
+                    failed: Some(error),
+                };
+            }
         }
-        if got.bytes == 0 {
-            break;
-        }
-        bytes = numbers::plus(bytes, got.bytes);
     }
     Got {
         bytes,

@@ -1,51 +1,28 @@
 // `list`: a line for each hand. All is checked before the first line is written.
-use crate::cards::{Card, Opened};
-use crate::checking::Checked;
-use crate::statuses::DONE;
-use crate::walking::{Hand, Next};
-use crate::{cards, checking, lines, telling, walking};
-use std::io::Result;
+use crate::cards::Card;
+use crate::statuses::Failure;
+use crate::{cards, lines, telling, walking};
 
-fn print_hand(rt: &HostRuntime, h: Hand) -> Result<()> {
-    let key = h.key;
-    lines::print_line(rt, key, h.first, h.blocks)
-}
-
-fn print_all(rt: &HostRuntime, path: &[u8], card: &Card, room: &mut [u8]) -> u8 {
+fn print_all(rt: &HostRuntime, path: &[u8], card: &Card, room: &mut [u8]) -> Result<(), Failure> {
     let mut place = walking::START;
+    // A hand takes a block at least, so no more turns are needed than blocks, and no measure.
     for _ in 0..walking::turns(card) {
-        let step = walking::next_hand(card, place, room);
-        let next = step.next;
-        match next {
-            Next::Hand(h) => {
-                if let Err(error) = print_hand(rt, h) {
-                    return telling::not_printed(rt, error);
-                }
-            }
-            Next::End => return DONE,
-            Next::Bad(block) => return telling::bad_journal(rt, path, block),
-            Next::NotRead(error) => return telling::not_read(rt, path, error),
-        }
-        let on = step.place;
-        place = on;
+        let next = place
+            .next_hand(card, room)
+            .map_err(|why| telling::unread(rt, path, why))?;
+        let Some(hand) = next else {
+            return Ok(());
+        };
+        lines::print_line(rt, hand.key, hand.first, hand.blocks).map_err(
+            |error| telling::not_printed(rt, error),
+        )?;
     }
-    DONE
+    Ok(())
 }
 
-fn list_card(rt: &HostRuntime, path: &[u8], card: &Card) -> u8 {
+pub fn list(rt: &HostRuntime, path: &[u8]) -> Result<(), Failure> {
+    let card = cards::open_card(rt, path).map_err(|why| telling::no_card(rt, path, why))?;
     let mut room = cards::NO_BYTES;
-    match checking::check(rt, card, &mut room) {
-        Checked::Good => print_all(rt, path, card, &mut room),
-        Checked::Bad(block) => telling::bad_journal(rt, path, block),
-        Checked::NotRead(error) => telling::not_read(rt, path, error),
-    }
-}
-
-pub fn list(rt: &HostRuntime, path: &[u8]) -> u8 {
-    match cards::open_card(rt, path) {
-        Opened::Card(card) => list_card(rt, path, &card),
-        Opened::NotOpened(error) => telling::not_opened(rt, path, error),
-        Opened::NotRead(error) => telling::not_read(rt, path, error),
-        Opened::StreamClosed => telling::stream_closed(rt),
-    }
+    walking::check(rt, &card, &mut room).map_err(|why| telling::unread(rt, path, why))?;
+    print_all(rt, path, &card, &mut room)
 }

@@ -4,7 +4,6 @@
 mod appending;
 mod arguments;
 mod cards;
-mod checking;
 mod commands;
 mod files;
 mod finding;
@@ -12,7 +11,6 @@ mod hands;
 mod inputs;
 mod lines;
 mod listing;
-mod numbers;
 mod progress;
 mod recording;
 mod script_lines;
@@ -24,13 +22,14 @@ mod walking;
 
 use arguments::StatusTo;
 
+// No ExitCode is returned: whoever runs the program reads its status from the descriptor alone.
 fn main(rt: HostRuntime) {
     match arguments::status_to(&rt) {
-        StatusTo::Nobody => {
-            commands::run(&rt);
+        Some(StatusTo::Nobody) => {
+            let _ = commands::run(&rt);
         }
-        StatusTo::Descriptor(fd) => statuses::tell(&rt, fd, commands::run(&rt)),
-        StatusTo::Nowhere => {
+        Some(StatusTo::Descriptor(fd)) => statuses::tell(&rt, fd, commands::run(&rt)),
+        None => {
             telling::wrong_use(&rt);
         }
     }

@@ -1,21 +1,18 @@
 // `record`: the hands of the script on standard input, appended to a file one by one.
+use crate::appending::Target;
 use crate::cards::BLOCK;
-use crate::files::ENOENT;
-use crate::inputs::Source;
 use crate::standing::Standing;
-use crate::statuses::DONE;
-use crate::{appending, cards, inputs, lines, numbers, standing, telling};
+use crate::statuses::Failure;
+use crate::{appending, cards, inputs, lines, standing, telling};
 use console::play;
 use journal::block::Title;
 use journal::hand;
-use journal::hand::HandWritten;
+use journal::hand::NotWritten;
 use keys::HandKey;
 use recorder::recording::next_hand;
 use refusals::JournalError;
-use std::fs::File;
-use std::io::Error;
 
-// One byte more than a script has: it tells that one is too long.
+// Fixed, as the room of a hand is. One byte more than a script has: it tells that one is too long.
 const SCRIPT: usize = 65_537;
 
 // The most entries of a hand.
@@ -24,176 +21,134 @@ const ENTRIES: usize = 30_600;
 // The edition of the rules that a script plays.
 const EDITION: u8 = 1;
 
-// How the recording of a hand ended, and the bytes of the file then.
-#[derive(Clone, Copy)]
-struct Kept {
-    status: u8,
-    bytes: usize,
-}
-
-fn print_kept(rt: &HostRuntime, key: HandKey, blocks: usize, bytes: usize) -> Kept {
-    match lines::print_line(rt, key, blocks, 0) {
-        Ok(()) => Kept {
-            status: DONE,
-            bytes,
-        },
-        Err(error) => Kept {
-            status: telling::recorded_not_printed(rt, key, error),
-            bytes,
-        },
-    }
+fn print_kept(rt: &HostRuntime, key: HandKey, blocks: usize) -> Result<(), Failure> {
+    lines::print_line(rt, key, blocks, 0).map_err(|error| telling::recorded_not_printed(
+        rt, key, error,
+    ))
 }
 
 // A hand that is not written has its line too.
-fn print_denied(rt: &HostRuntime, key: HandKey, why: JournalError, bytes: usize) -> Kept {
-    match lines::print_line(rt, key, 0, why.number() as usize) {
-        Ok(()) => Kept {
-            status: DONE,
-            bytes,
-        },
-        Err(error) => Kept {
-            status: telling::not_printed(rt, error),
-            bytes,
-        },
-    }
+fn print_denied(rt: &HostRuntime, key: HandKey, why: JournalError) -> Result<(), Failure> {
+    lines::print_line(rt, key, 0, why.number() as usize).map_err(|error| telling::not_printed(
+        rt, error,
+    ))
 }
 
-// A hand's blocks, which stand first in the room, behind so many bytes of the file.
+// A hand's blocks behind so many bytes of the file. Answers the file's bytes then, as the functions below do.
 fn keep_blocks(
     rt: &HostRuntime,
-    path: &[u8],
-    file: &File,
+    to: Target<'_>,
     key: HandKey,
-    room: &[u8],
-    blocks: usize,
-    bytes: usize,
-) -> Kept {
-    if blocks <= room.len() / BLOCK {
-        let len = blocks * BLOCK;
-        let status = appending::append(rt, path, file, key, &room[0..len], bytes);
-        if status == DONE {
-            return print_kept(rt, key, blocks, numbers::plus(bytes, len));
-        }
-        return Kept { status, bytes };
-    }
-    print_denied(rt, key, JournalError::NotKept, bytes)
+    hand: &[u8],
+    stood: usize,
+) -> Result<usize, Failure> {
+    appending::append(rt, to, key, hand, stood)?;
+    print_kept(rt, key, hand.len() / BLOCK)?;
+    Ok(stood.saturating_add(hand.len()))
 }
 
-fn keep(
-    rt: &HostRuntime,
-    path: &[u8],
-    file: &File,
+// The hand's blocks, in the room, or why it is not kept.
+fn blocks_of<'a>(
     key: HandKey,
     entries: &[u32],
-    room: &mut [u8],
-    bytes: usize,
-) -> Kept {
+    room: &'a mut [u8],
+) -> Result<&'a [u8], JournalError> {
     let title = Title {
         key,
         edition: EDITION,
     };
-    match hand::write_hand(title, entries, room) {
-        HandWritten::Denied(why) => print_denied(rt, key, why, bytes),
-        HandWritten::NoRoom(_) => print_denied(rt, key, JournalError::NotKept, bytes),
-        HandWritten::Blocks(n) => keep_blocks(rt, path, file, key, room, n, bytes),
-    }
+    let blocks = hand::write_hand(title, entries, room).map_err(|why| match why {
+        NotWritten::Denied(why) => why,
+        NotWritten::NoRoom(_) => JournalError::NotKept,
+    })?;
+    room.get(..blocks.saturating_mul(BLOCK))
+        .ok_or(JournalError::NotKept)
 }
 
-// A hand that is whole on the tape: its first entries.
-fn keep_whole(
+fn keep(
     rt: &HostRuntime,
-    path: &[u8],
-    file: &File,
+    to: Target<'_>,
     key: HandKey,
-    tape: &[u32],
-    entries: usize,
-    is_whole: bool,
+    entries: &[u32],
     room: &mut [u8],
-    bytes: usize,
-) -> Kept {
-    if is_whole {
-        if entries <= tape.len() {
-            return keep(rt, path, file, key, &tape[0..entries], room, bytes);
+    stood: usize,
+) -> Result<usize, Failure> {
+    match blocks_of(key, entries, room) {
+        Ok(hand) => keep_blocks(rt, to, key, hand, stood),
+        Err(why) => {
+            print_denied(rt, key, why)?;
+            Ok(stood)
         }
     }
-    print_denied(rt, key, JournalError::NotKept, bytes)
 }
 
 // Each hand of the script. A script has fewer hands than bytes.
 fn record_hands(
     rt: &HostRuntime,
-    path: &[u8],
-    file: &File,
+    to: Target<'_>,
     stood: usize,
     script: &[u8],
     room: &mut [u8],
-) -> u8 {
+) -> Result<(), Failure> {
     let mut tape = [0u32; ENTRIES];
     let mut bytes = stood;
     let mut at: usize = 0;
-    let console = play::start();
-    let mut state = console.state;
+    let mut state = play::start().state;
+    // A hand takes a byte of the script at least, so no more turns are needed than bytes, and no measure.
     for _ in 0..SCRIPT {
         let taken = next_hand(script, at, state, &mut tape);
-        if !taken.found {
+        let Some(hand) = taken.hand else {
             break;
+        };
+        match tape.get(..hand.entries) {
+            // a hand that is whole on the tape
+            Some(entries) if hand.is_whole => {
+                bytes = keep(rt, to, hand.key, entries, room, bytes)?;
+            }
+            _ => print_denied(rt, hand.key, JournalError::NotKept)?,
         }
-        let kept = keep_whole(
-            rt,
-            path,
-            file,
-            taken.key,
-            &tape,
-            taken.entries,
-            taken.is_whole,
-            room,
-            bytes,
-        );
-        if kept.status != DONE {
-            return kept.status;
-        }
-        bytes = kept.bytes;
         at = taken.at;
-        let next = taken.state;
-        state = next;
+        state = taken.state;
     }
-    DONE
+    Ok(())
 }
 
 // A missing file is made once there is a script.
 fn record_script(
     rt: &HostRuntime,
     path: &[u8],
-    file: Standing,
+    file: Option<Standing>,
     script: &[u8],
     room: &mut [u8],
-) -> u8 {
-    match standing::there(rt, path, file) {
-        Standing::Open { file, bytes } => record_hands(rt, path, &file, bytes, script, room),
-        Standing::Missing => telling::not_opened(rt, path, Error::from_raw_os_error(ENOENT)),
-        Standing::Ended(status) => status,
-    }
+) -> Result<(), Failure> {
+    let standing = standing::there(rt, path, file)?;
+    let to = Target {
+        path,
+        file: &standing.file,
+    };
+    record_hands(rt, to, standing.bytes, script, room)
 }
 
-fn read_script(rt: &HostRuntime, path: &[u8], file: Standing, room: &mut [u8]) -> u8 {
+fn read_script(
+    rt: &HostRuntime,
+    path: &[u8],
+    file: Option<Standing>,
+    room: &mut [u8],
+) -> Result<(), Failure> {
     let mut buffer = [0u8; SCRIPT];
-    let got = inputs::read_full(Source::Stream(rt.stdin()), &mut buffer);
-    let len = got.bytes;
+    let got = inputs::read_full(&mut rt.stdin(), &mut buffer);
     if let Some(error) = got.failed {
-        return telling::script_not_read(rt, error);
+        return Err(telling::script_not_read(rt, error));
     }
-    if len < SCRIPT {
-        return record_script(rt, path, file, &buffer[0..len], room);
+    if got.bytes < SCRIPT {
+        return record_script(rt, path, file, &buffer[..got.bytes], room);
     }
-    telling::script_too_long(rt)
+    Err(telling::script_too_long(rt))
 }
 
 // The file is judged before the script is read.
-pub fn record(rt: &HostRuntime, path: &[u8]) -> u8 {
+pub fn record(rt: &HostRuntime, path: &[u8]) -> Result<(), Failure> {
     let mut room = cards::NO_BYTES;
-    let file = standing::look(rt, path, &mut room);
-    match file {
-        Standing::Ended(status) => status,
-        other => read_script(rt, path, other, &mut room),
-    }
+    let file = standing::look(rt, path, &mut room)?;
+    read_script(rt, path, file, &mut room)
 }

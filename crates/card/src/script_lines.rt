@@ -1,70 +1,56 @@
 // A hand as a script: the line of its key, then its lines, from its entries.
-use crate::telling::{say, say_number};
 use crate::texts;
 use journal::hand;
 use keys::HandKey;
-use std::io::{Error, Result};
+use std::io::{Cursor, Result, Write};
+
+// The text of some entries, which goes out before it is full.
+type Text = Cursor<[u8; 4096]>;
 
 // From here on the text is written: an entry takes at most six places of its 4,096.
-const FULL: usize = 4000;
-
-// The place after what is left of the text; or it could not be written.
-#[derive(Clone, Copy)]
-enum Left {
-    At(usize),
-    NotWritten(Error),
-}
+const FULL: u64 = 4000;
 
 // A letter begins a line, but for the first; a number follows a space.
-fn put_entry(out: &mut [u8], at: usize, i: usize, entry: u32) -> usize {
+fn put_entry(text: &mut Text, i: usize, entry: u32) -> Result<()> {
     if entry % 65536 == 0 {
-        let next = texts::put(out, at, b" ");
-        return texts::put_number(out, next, (entry / 65536) as u64);
+        let number = entry / 65536;
+        return write!(text, " {number}");
     }
     let letter = (entry % 256) as u8;
     if i == 0 {
-        return texts::put(out, at, &[letter]);
+        return text.write_all(&[letter]);
     }
-    texts::put(out, at, &[b'\n', letter])
+    text.write_all(&[b'\n', letter])
 }
 
-fn write_full(rt: &HostRuntime, text: &[u8], at: usize) -> Left {
-    if at < FULL {
-        return Left::At(at);
-    }
-    match texts::write(rt, text, at) {
-        Ok(()) => Left::At(0),
-        Err(error) => Left::NotWritten(error),
-    }
+fn write_out(rt: &HostRuntime, text: &mut Text) -> Result<()> {
+    rt.write_all(texts::written(text))?;
+    text.set_position(0);
+    Ok(())
 }
 
 // All entries, so that a table's line is whole however many stacks it has.
 pub fn print_entries(rt: &HostRuntime, bytes: &[u8], entries: usize) -> Result<()> {
-    let mut text = [0u8; 4096];
-    let mut at: usize = 0;
+    let mut text = Cursor::new([0u8; 4096]);
+    // An entry is found by its number: between those of two blocks stand other bytes.
     for i in 0..entries {
-        let next = put_entry(&mut text, at, i, hand::hand_entry(bytes, i));
-        match write_full(rt, &text, next) {
-            Left::At(n) => at = n,
-            Left::NotWritten(error) => return Err(error),
+        put_entry(&mut text, i, hand::hand_entry(bytes, i))?;
+        if FULL <= text.position() {
+            write_out(rt, &mut text)?;
         }
     }
-    let end = texts::put(&mut text, at, &[b'\n']);
-    texts::write(rt, &text, end)
+    text.write_all(b"\n")?;
+    write_out(rt, &mut text)
 }
 
 // The number of a script's line ends at 65,535.
 pub fn print_key(rt: &HostRuntime, key: HandKey) -> Result<()> {
-    if 65535 < key.hand {
-        say(rt, b"journal: hand ");
-        say_number(rt, key.hand as u64);
-        say(rt, b" fits no k line: the line is left out\n");
+    let HandKey { code, year, hand } = key;
+    if 65535 < hand {
+        let _ = eprintln!(rt; "journal: hand {hand} fits no k line: the line is left out");
         return Ok(());
     }
-    let mut text = [0u8; 80];
-    let start = texts::put(&mut text, 0, b"k ");
-    let code = texts::put_word(&mut text, start, key.code as u64, b' ');
-    let year = texts::put_word(&mut text, code, key.year as u64, b' ');
-    let end = texts::put_word(&mut text, year, key.hand as u64, b'\n');
-    texts::write(rt, &text, end)
+    let mut line = Cursor::new([0u8; 80]);
+    writeln!(line, "k {code} {year} {hand}")?;
+    rt.write_all(texts::written(&line))
 }

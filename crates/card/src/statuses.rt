@@ -1,74 +1,73 @@
 // How the program ended: this digit is written to a descriptor, and the wrapper exits with it.
-ghost use Rattle.std.specs.Prelude.{◌≤◌};
-
-use crate::inputs::Source;
+use crate::inputs::FilePart;
 use crate::{files, inputs, texts};
 use std::fs::File;
-use std::io::{Result, Write};
+use std::io::{Cursor, Write};
+use std::{io, str};
 
-pub const DONE: u8 = 0;
+// What the program could not do. Why is told on standard error.
+#[derive(Clone, Copy, PartialEq, Eq)]
+pub enum Failure {
+    // a script, a hand or a file is refused
+    Refused,
+    WrongUse,
+    NotThere,
+    // reading or writing failed
+    Failed,
+}
 
-// a script, a hand or a file is refused
-pub const REFUSED: u8 = 1;
-
-pub const WRONG_USE: u8 = 2;
-
-pub const NOT_THERE: u8 = 3;
-
-// reading or writing failed
-pub const FAILED: u8 = 4;
+impl Failure {
+    pub fn status(self) -> u8 {
+        match self {
+            Failure::Refused => 1,
+            Failure::WrongUse => 2,
+            Failure::NotThere => 3,
+            Failure::Failed => 4,
+        }
+    }
+}
 
 // The most bytes of the names here, and of what is read of a descriptor.
 const MOST: usize = 256;
 
 // What the system keeps of a descriptor of this program: the file behind it, or its state.
-fn put_name(out: &mut [u8; MOST], folder: &[u8], fd: u64) -> usize
-    ensures { result ≤ 256 }
-{
-    let at = texts::put(out, 0, folder);
-    commons::smaller(texts::put_number(out, at, fd), MOST)
+fn name_of(folder: &str, fd: u32) -> Cursor<[u8; MOST]> {
+    let mut name = Cursor::new([0; MOST]);
+    let _ = write!(name, "/proc/self/{folder}/{fd}");
+    name
 }
 
-// The last digit of the flags, which says how a descriptor is open: 1 for writing, 2 for both.
-fn is_for_writing(state: &[u8]) -> bool {
-    let mut last = b'0';
-    let mut is_flags = false;
-    for i in 0..state.len() {
-        if commons::comparing::stands_at(state, i, b"flags:") {
-            is_flags = true;
-        }
-        if is_flags & (state[i] == b'\n') {
-            return last % 4 != 0;
-        }
-        last = state[i];
-    }
-    false
+// Whether a descriptor is open for writing, by the last digit of its flags: 1 for writing, 2 for both.
+fn is_for_writing(state: &str) -> Option<bool> {
+    let (_, flags) = state.split_once("flags:")?;
+    let (flags, _) = flags.split_once('\n')?;
+    let last = flags.bytes().last()?;
+    Some(last % 4 != 0)
 }
 
-fn is_flagged_to_write(rt: &HostRuntime, fd: u64) -> bool {
-    let mut name = [0u8; MOST];
-    let len = put_name(&mut name, b"/proc/self/fdinfo/", fd);
-    match files::open_read(rt, &name[..len]) {
-        Ok(file) => {
-            let mut state = [0u8; MOST];
-            let got = inputs::read_full(Source::From(&file, 0), &mut state);
-            is_for_writing(&state[..commons::smaller(got.bytes, MOST)])
-        }
+fn is_flagged_to_write(rt: &HostRuntime, fd: u32) -> bool {
+    let name = name_of("fdinfo", fd);
+    let Ok(file) = files::open_read(rt, texts::written(&name)) else {
+        return false;
+    };
+    let mut state = [0u8; MOST];
+    let got = inputs::read_full(&mut FilePart { file: &file, at: 0 }, &mut state);
+    match str::from_utf8(&state[..got.bytes.min(MOST)]) {
+        Ok(text) => is_for_writing(text).unwrap_or(false),
         Err(_) => false,
     }
 }
 
 // A pipe is opened for reading too, where it may be: then that does not wait for somebody who reads.
-fn open_descriptor(rt: &HostRuntime, fd: u64) -> Result<File> {
-    let mut name = [0u8; MOST];
-    let len = put_name(&mut name, b"/proc/self/fd/", fd);
-    match files::open_both(rt, &name[..len]) {
+fn open_descriptor(rt: &HostRuntime, fd: u32) -> io::Result<File> {
+    let name = name_of("fd", fd);
+    match files::open_both(rt, texts::written(&name)) {
         Ok(file) => Ok(file),
-        Err(_) => files::open_append(rt, &name[..len]),
+        Err(_) => files::open_append(rt, texts::written(&name)),
     }
 }
 
-fn takes_no_bytes(rt: &HostRuntime, fd: u64) -> bool {
+fn takes_no_bytes(rt: &HostRuntime, fd: u32) -> bool {
     match open_descriptor(rt, fd) {
         Ok(mut file) => file.write(b"").is_ok(),
         Err(_) => false,
@@ -76,14 +75,16 @@ fn takes_no_bytes(rt: &HostRuntime, fd: u64) -> bool {
 }
 
 // A write of no bytes shows whether a descriptor that is open for writing can be written to.
-pub fn is_open_to_write(rt: &HostRuntime, fd: u64) -> bool {
+pub fn is_open_to_write(rt: &HostRuntime, fd: u32) -> bool {
     is_flagged_to_write(rt, fd) && takes_no_bytes(rt, fd)
 }
 
-pub fn tell(rt: &HostRuntime, fd: u64, status: u8) {
+pub fn tell(rt: &HostRuntime, fd: u32, answer: Result<(), Failure>) {
+    let status = match answer {
+        Ok(()) => 0,
+        Err(failure) => failure.status(),
+    };
     if let Ok(mut file) = open_descriptor(rt, fd) {
-        let mut text = [0u8; MOST];
-        let n = commons::smaller(texts::put_number(&mut text, 0, status as u64), MOST);
-        let _ = file.write_all(&text[..n]);
+        let _ = write!(file, "{status}");
     }
 }

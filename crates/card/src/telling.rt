@@ -1,151 +1,171 @@
-// What is told on standard error. A function that tells why the program ends answers its status.
+// What is told on standard error. A function that tells why the program ends answers with what failed.
+use crate::cards::NoCard;
 use crate::files::{EIO, EISDIR, ENOSPC, ESPIPE};
-use crate::statuses::{FAILED, NOT_THERE, REFUSED, WRONG_USE};
+use crate::statuses::Failure;
+use crate::texts::KeyText;
+use crate::walking::Unread;
 use crate::{files, texts};
 use keys::HandKey;
-use std::io::Error;
+use std::io::{Cursor, Error, Write};
 
 // What cannot be said is left out.
-pub fn say(rt: &HostRuntime, text: &[u8]) {
-    let _ = rt.stderr().write_all(text);
+pub fn say(rt: &HostRuntime, text: &str) {
+    say_bytes(rt, text.as_bytes());
 }
 
-pub fn say_number(rt: &HostRuntime, n: u64) {
-    let _ = rt.eprint(n);
+// A path need not be text.
+pub fn say_bytes(rt: &HostRuntime, bytes: &[u8]) {
+    let _ = rt.stderr().write_all(bytes);
 }
 
-// The end of a line: what failed, a colon, and why.
-pub fn fail(rt: &HostRuntime, what: &[u8], error: Error) {
-    let mut text = [0u8; 128];
-    let n = texts::put_reason(&mut text, 0, error);
-    say(rt, what);
-    say(rt, b": ");
-    say(rt, &text[..commons::smaller(n, 128)]);
-    say(rt, b"\n");
+// The end of a line: a colon, and why a call failed, in C's words: what the library prints, without the number that it puts behind them.
+pub fn say_reason(rt: &HostRuntime, error: Error) {
+    let mut all = Cursor::new([0u8; 128]);
+    let _ = write!(all, "{error}");
+    let mut number = Cursor::new([0u8; 128]);
+    if let Some(code) = error.raw_os_error() {
+        let _ = write!(number, " (os error {code})");
+    }
+    let text = texts::written(&all);
+    let len = text.len().saturating_sub(texts::written(&number).len());
+    say(rt, ": ");
+    say_bytes(rt, &text[..len]);
+    say(rt, "\n");
 }
 
-pub fn say_key(rt: &HostRuntime, key: HandKey) {
-    say_number(rt, key.code as u64);
-    say(rt, b" ");
-    say_number(rt, key.year as u64);
-    say(rt, b" ");
-    say_number(rt, key.hand as u64);
+// The end of a line: what failed, and why.
+pub fn fail(rt: &HostRuntime, path: &[u8], error: Error) {
+    say_bytes(rt, path);
+    say_reason(rt, error);
 }
 
-pub fn wrong_use(rt: &HostRuntime) -> u8 {
-    say(rt, b"journal: wrong use\n");
+pub fn wrong_use(rt: &HostRuntime) -> Failure {
+    say(rt, "journal: wrong use\n");
     say(
         rt,
-        b"  journal record FILE < SCRIPT       appends the hands of the script to FILE\n",
+        "  journal record FILE < SCRIPT       appends the hands of the script to FILE\n",
     );
     say(
         rt,
-        b"  journal list FILE                  a line for each hand: code, year, hand, first block, blocks\n",
+        "  journal list FILE                  a line for each hand: code, year, hand, first block, blocks\n",
     );
     say(
         rt,
-        b"  journal read FILE CODE YEAR HAND   the hand as a script; numbers in digits, no zero before others,\n",
+        "  journal read FILE CODE YEAR HAND   the hand as a script; numbers in digits, no zero before others,\n",
     );
     say(
         rt,
-        b"                                     CODE and YEAR to 65535, HAND to 4294967295\n",
+        "                                     CODE and YEAR to 65535, HAND to 4294967295\n",
     );
-    WRONG_USE
+    Failure::WrongUse
 }
 
-pub fn not_opened(rt: &HostRuntime, path: &[u8], error: Error) -> u8 {
-    say(rt, b"journal: cannot open ");
+pub fn not_opened(rt: &HostRuntime, path: &[u8], error: Error) -> Failure {
+    say(rt, "journal: cannot open ");
     fail(rt, path, error);
-    WRONG_USE
+    Failure::WrongUse
 }
 
 // A file that cannot be made: a full disk is no wrong use.
-pub fn not_made(rt: &HostRuntime, path: &[u8], error: Error) -> u8 {
-    say(rt, b"journal: cannot make ");
+pub fn not_made(rt: &HostRuntime, path: &[u8], error: Error) -> Failure {
+    say(rt, "journal: cannot make ");
     fail(rt, path, error);
     if files::is_error(error, ENOSPC) | files::is_error(error, EIO) {
-        return FAILED;
+        return Failure::Failed;
     }
-    WRONG_USE
+    Failure::WrongUse
 }
 
 // A folder and a pipe open, and are no card.
-pub fn not_read(rt: &HostRuntime, path: &[u8], error: Error) -> u8 {
-    say(rt, b"journal: cannot read ");
+pub fn not_read(rt: &HostRuntime, path: &[u8], error: Error) -> Failure {
+    say(rt, "journal: cannot read ");
     fail(rt, path, error);
     if files::is_error(error, EISDIR) | files::is_error(error, ESPIPE) {
-        return WRONG_USE;
+        return Failure::WrongUse;
     }
-    FAILED
+    Failure::Failed
 }
 
-pub fn stream_closed(rt: &HostRuntime) -> u8 {
+pub fn stream_closed(rt: &HostRuntime) -> Failure {
     say(
         rt,
-        b"journal: standard input, output and error must be open\n",
+        "journal: standard input, output and error must be open\n",
     );
-    FAILED
+    Failure::Failed
 }
 
-pub fn not_printed(rt: &HostRuntime, error: Error) -> u8 {
-    fail(rt, b"journal: cannot write to standard output", error);
-    FAILED
+pub fn not_printed(rt: &HostRuntime, error: Error) -> Failure {
+    say(rt, "journal: cannot write to standard output");
+    say_reason(rt, error);
+    Failure::Failed
 }
 
-pub fn bad_journal(rt: &HostRuntime, path: &[u8], block: usize) -> u8 {
-    say(rt, b"journal: 27 BadJournal: ");
-    say(rt, path);
-    say(rt, b" does not read at block ");
-    say_number(rt, block as u64);
-    say(rt, b"\n");
-    REFUSED
+fn bad_journal(rt: &HostRuntime, path: &[u8], block: usize) -> Failure {
+    say(rt, "journal: 27 BadJournal: ");
+    say_bytes(rt, path);
+    let _ = eprintln!(rt; " does not read at block {block}");
+    Failure::Refused
 }
 
-pub fn not_there(rt: &HostRuntime, path: &[u8], key: HandKey) -> u8 {
-    say(rt, b"journal: ");
-    say(rt, path);
-    say(rt, b" has no hand ");
-    say_key(rt, key);
-    say(rt, b"\n");
-    NOT_THERE
+pub fn unread(rt: &HostRuntime, path: &[u8], why: Unread) -> Failure {
+    match why {
+        Unread::Bad(block) => bad_journal(rt, path, block),
+        Unread::NotRead(error) => not_read(rt, path, error),
+    }
+}
+
+pub fn no_card(rt: &HostRuntime, path: &[u8], why: NoCard) -> Failure {
+    match why {
+        NoCard::NotOpened(error) => not_opened(rt, path, error),
+        NoCard::NotRead(error) => not_read(rt, path, error),
+        NoCard::StreamClosed => stream_closed(rt),
+    }
+}
+
+pub fn not_there(rt: &HostRuntime, path: &[u8], key: HandKey) -> Failure {
+    say(rt, "journal: ");
+    say_bytes(rt, path);
+    let key = KeyText(key);
+    let _ = eprintln!(rt; " has no hand {key}");
+    Failure::NotThere
 }
 
 pub fn stands_again(rt: &HostRuntime, key: HandKey, block: usize) {
-    say(rt, b"journal: key ");
-    say_key(rt, key);
-    say(rt, b" stands again at block ");
-    say_number(rt, block as u64);
-    say(rt, b"; the first hand is read\n");
+    let key = KeyText(key);
+    let _ = eprintln!(rt;
+        "journal: key {key} stands again at block {block}; the first hand is read"
+    );
 }
 
-pub fn not_appended(rt: &HostRuntime, path: &[u8], block: usize) -> u8 {
-    let status = bad_journal(rt, path, block);
-    say(rt, b"journal: nothing is appended\n");
-    status
+pub fn not_appended(rt: &HostRuntime, path: &[u8], block: usize) -> Failure {
+    let failure = bad_journal(rt, path, block);
+    say(rt, "journal: nothing is appended\n");
+    failure
 }
 
 pub fn folder_not_synced(rt: &HostRuntime, path: &[u8], error: Error) {
-    say(rt, b"journal: cannot sync the folder of ");
+    say(rt, "journal: cannot sync the folder of ");
     fail(rt, path, error);
 }
 
-pub fn script_not_read(rt: &HostRuntime, error: Error) -> u8 {
-    fail(rt, b"journal: cannot read standard input", error);
-    FAILED
+pub fn script_not_read(rt: &HostRuntime, error: Error) -> Failure {
+    say(rt, "journal: cannot read standard input");
+    say_reason(rt, error);
+    Failure::Failed
 }
 
-pub fn script_too_long(rt: &HostRuntime) -> u8 {
+pub fn script_too_long(rt: &HostRuntime) -> Failure {
     say(
         rt,
-        b"journal: 26 ScriptTooLong: more than 65536 bytes; nothing is written\n",
+        "journal: 26 ScriptTooLong: more than 65536 bytes; nothing is written\n",
     );
-    REFUSED
+    Failure::Refused
 }
 
-pub fn recorded_not_printed(rt: &HostRuntime, key: HandKey, error: Error) -> u8 {
-    fail(rt, b"journal: cannot write to standard output", error);
-    say(rt, b"journal: hand ");
-    say_key(rt, key);
-    say(rt, b" is recorded\n");
-    FAILED
+pub fn recorded_not_printed(rt: &HostRuntime, key: HandKey, error: Error) -> Failure {
+    say(rt, "journal: cannot write to standard output");
+    say_reason(rt, error);
+    let key = KeyText(key);
+    let _ = eprintln!(rt; "journal: hand {key} is recorded");
+    Failure::Failed
 }

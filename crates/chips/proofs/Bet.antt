@@ -4,11 +4,9 @@
 use Rattle.std.proofs.Common.{◌≡◌, ℕ, ◌+◌, ◌-◌, ◌≤◌, Bool, true, false, not, ◌&&◌, eqb, ltb, refl, ◌∙◌, inl, inr, ⊎_elim, arith, ltb-false, le-ltb, eq-eqb}
 use mathlib.Core.Bool.{and-false}
 use lib.Ieee.{Float, binary32, add, lt}
+use Rattle.std.specs.Prelude.{Result, Ok, Err}
 use Rattle.refusals.specs.declared.Refusal.{Refusal}
-use Rattle.refusals.specs.declared.Verdict.{Verdict}
-use Rattle.refusals.specs.Rows.{give_if, judge, answer}
-use Rattle.bets.specs.declared.BetSize.{BetSize}
-use Rattle.bets.specs.declared.BetSize.TheVariants.{Pays, Refused}
+use Rattle.refusals.specs.Rows.{give_if, judge, answer, Verdict}
 use Rattle.bets.specs.Bet.{facing, invalid_size, slack_of, is_all_in, raise_by, payment_rows, bet_size}
 use Rattle.commons.proofs.Order.{lt_or_le, eqb_same}
 use Rattle.chips.specs.Whole.{most, is_whole, chips_in}
@@ -21,13 +19,13 @@ use Rattle.chips.proofs.Whole.{whole_is, chips-le}
 use Rattle.chips.proofs.Amounts.{Means, not-invalid, Large, large-abs, large-calls, large-pays, slack_non_neg}
 
 -- the same refusal, or the same payment as a whole number
-pub data Same : BetSize → Ruling → Type 0 where
-  both-pay : {x : Float} {n : ℕ} → Is x n → Same (Pays x) (pays n)
-  both_refuse : {r : Refusal} → Same (Refused r) (refused r)
+pub data Same : Result Float Refusal → Ruling → Type 0 where
+  both-pay : {x : Float} {n : ℕ} → Is x n → Same (Ok x) (pays n)
+  both_refuse : {r : Refusal} → Same (Err r) (refused r)
 
 -- two verdicts that give the same
 abbrev Alike : Float → ℕ → Verdict → Verdict → Type 0
-Alike x n u v = Same (answer (Pays x) Refused u) (answer (pays n) refused v)
+Alike x n u v = Same (answer (Ok x) Err u) (answer (pays n) refused v)
 
 give : (x : Float) (n : ℕ) (s t : Bool) (r : Refusal) (u v : Verdict) → s ≡ t → (t ≡ false → Alike x n u v) → Alike x n (give_if s r u) (give_if t r v)
 give x n s true r u v e h = rw e both_refuse
@@ -41,7 +39,7 @@ module _ {p k b m : Float} {P K B M : ℕ} (hp : Is p P) (hk : Is k K) (hb : Is 
       ∙ eqb_same (K - n) 0 n K (λ e. omega arith) (λ e. omega arith)
 
   -- an amount above all chips is all in
-  pub large-bet : (a : Float) → invalid_size a ≡ false → Large a → bet_size a (facing p k b m) ≡ Pays k
+  pub large-bet : (a : Float) → invalid_size a ≡ false → Large a → bet_size a (facing p k b m) ≡ Ok k
   unfolding bet_size
   large-bet a v l =
       let e = slack_of a b in

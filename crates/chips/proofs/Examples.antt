@@ -2,13 +2,13 @@
 -- past 8,000: the bet itself, on floats. Assumes nothing.
 use Rattle.std.proofs.Common.{◌≡◌, ℕ, Bool, true, false, not, eqb, List, [], ◌∷◌, pos, negsuc, refl}
 use lib.Ieee.{Float, nan, inf, fin, binary32, of_int, round, units, odd, size, span, climb, add, sub, sum, neg, mul, lt, le, eq, is_nan}
+use Rattle.std.specs.Prelude.{Result, Ok, Err}
 use Rattle.commons.specs.Tests.{all_of}
 use Rattle.refusals.specs.Number.{number_of}
 use Rattle.floats.specs.Helpers.{max_of, min_of, abs_of, sign_of, tol_of}
-use Rattle.bets.specs.declared.BetSize.{BetSize}
-use Rattle.bets.specs.declared.BetSize.TheVariants.{Pays, Refused}
 use Rattle.bets.specs.Bet.{facing, bet_size}
 use Rattle.commons.specs.Folds.{sum_to, all_to}
+use Rattle.refusals.specs.declared.Refusal.{Refusal}
 use Rattle.chips.specs.Whole.{is_whole, chips_in, all_whole, sum_chips}
 use Rattle.chips.specs.Rule.{chips, endless, Ruling, pays, refused, rule_of}
 
@@ -23,13 +23,13 @@ minus_zero : Float
 minus_zero = fin true 0 (pos 0)
 
 -- the bet is refused with this number, or pays this
-no : BetSize → ℕ → Bool
-no (Pays x) g = false
-no (Refused r) g = eqb (number_of r) g
+no : Result Float Refusal → ℕ → Bool
+no (Ok x) g = false
+no (Err r) g = eqb (number_of r) g
 
-paid : BetSize → Float → Bool
-paid (Pays y) x = eq y x
-paid (Refused r) x = false
+paid : Result Float Refusal → Float → Bool
+paid (Ok y) x = eq y x
+paid (Err r) x = false
 
 -- and so the rule on numbers
 rule_no : Ruling → ℕ → Bool

@@ -2,13 +2,13 @@
 -- Assumes nothing.
 use Rattle.std.proofs.Common.{◌≡◌, ℕ, ◌+◌, ◌-◌, ◌≤◌, max, eqb, ltb, refl, ◌∙◌, subst, arith}
 use lib.Ieee.{Float, binary32, add, sub, lt}
+use Rattle.std.specs.Prelude.{Result, Ok}
 use Rattle.floats.specs.Helpers.{max_of, near_zero}
-use Rattle.bets.specs.declared.BetSize.{BetSize}
-use Rattle.bets.specs.declared.BetSize.TheVariants.{Pays}
 use Rattle.bets.specs.Bet.{facing, bet_size}
 use Rattle.chips.specs.Whole.{most}
 use Rattle.chips.specs.Rule.{Amount, Ruling, pays, rule_of}
 use Rattle.commons.proofs.Order.{ltb-same, eqb_same}
+use Rattle.refusals.specs.declared.Refusal.{Refusal}
 use Rattle.chips.proofs.Value.{Is, lt-whole}
 use Rattle.chips.proofs.Add.{add-whole, sub-whole}
 use Rattle.chips.proofs.Helpers.{max-whole, near_zero_lem}
@@ -27,7 +27,7 @@ pub record Paid (p k b m x : Float) (P K B M X : ℕ) : Type 0 where
   pub empty : near_zero (sub binary32 k x) ≡ eqb X K
 
 -- a payment is matched by a payment
-pays_too : {r : Ruling} {x : Float} → Same (Pays x) r → (X : ℕ) × (r ≡ pays X) × Is x X
+pays_too : {r : Ruling} {x : Float} → Same (Ok x) r → (X : ℕ) × (r ≡ pays X) × Is x X
 pays_too (both-pay {n} h) = (n, refl, h)
 
 module _ {p k b m : Float} {P K B M : ℕ} (hp : Is p P) (hk : Is k K) (hb : Is b B) (hm : Is m M) (fit : P + K ≤ most) (fits : B ≤ most) where
@@ -48,5 +48,5 @@ module _ {p k b m : Float} {P K B M : ℕ} (hp : Is p P) (hk : Is k K) (hb : Is 
       }
 
   -- the rule's payment
-  pub accepted : (a : Float) (n : Amount) → Means a n → (x : Float) → bet_size a (facing p k b m) ≡ Pays x → (X : ℕ) × (rule_of n P K B M ≡ pays X) × Is x X
-  accepted a n h x e = pays_too (subst (λ (s : BetSize). Same s (rule_of n P K B M)) e (bet-is hp hk hb hm fit fits a n h))
+  pub accepted : (a : Float) (n : Amount) → Means a n → (x : Float) → bet_size a (facing p k b m) ≡ Ok x → (X : ℕ) × (rule_of n P K B M ≡ pays X) × Is x X
+  accepted a n h x e = pays_too (subst (λ (s : Result Float Refusal). Same s (rule_of n P K B M)) e (bet-is hp hk hb hm fit fits a n h))

@@ -2,9 +2,8 @@
 -- Assumes nothing.
 use Rattle.std.proofs.Common.{◌≡◌, ℕ, ◌+◌, ◌-◌, ◌≤◌, Bool, true, false, not, ◌&&◌, eqb, ltb, ◌⊎◌, refl, subst, inl, inr, ⊎_elim, arith, ltb-false, eqb-true}
 use borrow.Author.Tests.{not-false}
-use Rattle.refusals.specs.declared.Verdict.{Verdict}
-use Rattle.refusals.specs.declared.Verdict.TheVariants.{Stands, Refused}
-use Rattle.refusals.specs.Rows.{judge, answer}
+use Rattle.std.specs.Prelude.{Ok, Err}
+use Rattle.refusals.specs.Rows.{judge, answer, Verdict}
 use Rattle.refusals.proofs.Rows.{fails-at}
 use Rattle.chips.specs.Rule.{Amount, chips, endless, pays, refused, pay_of, rule_rows, rule_of}
 
@@ -14,9 +13,9 @@ pub record Allowed (p k b m x : ℕ) : Type 0 where
   pub raises : (x ≡ k) ⊎ ((p + x ≤ b) ⊎ (m ≤ p + x - b))
 
 -- a ruling that pays stands
-stands : (y : ℕ) (v : Verdict) (x : ℕ) → answer (pays y) refused v ≡ pays x → (v ≡ Stands) × (y ≡ x)
-stands y Stands x e = (refl, cc)
-stands y (Refused r) x e = let z : ◌≡◌ {A = ℕ} 0 1 = cc in absurd (omega arith)
+stands : (y : ℕ) (v : Verdict) (x : ℕ) → answer (pays y) refused v ≡ pays x → (v ≡ Ok tt) × (y ≡ x)
+stands y (Ok _) x e = (refl, cc)
+stands y (Err r) x e = let z : ◌≡◌ {A = ℕ} 0 1 = cc in absurd (omega arith)
 
 fails : (s t : Bool) → (s && t) ≡ false → (s ≡ false) ⊎ (t ≡ false)
 fails true t e = inr e

@@ -30,27 +30,12 @@ pub fn all_whole(l: [f32; 16], n: usize) -> bool
     if 16 < n {
         return false;
     }
-    let mut all = true;
-    for i in 0..n {
-        all = all & is_whole(l[i]);
-    }
-    all
+    l[..n].iter().all(|x| is_whole(*x))
 }
 
 // Of the first n places; there is none from 16 on, and what is not there is no chips.
 pub fn sum_chips(l: [f32; 16], n: usize) -> u32
     ensures { result ≡ sum_chips l n }
 {
-    let m = at_most_16(n);
-    let mut sum = 0u32;
-    for i in 0..m {
-        sum = sum + chips_in(l[i]);
-    }
-    sum
-}
-
-fn at_most_16(n: usize) -> usize
-    ensures { result ≡ min n 16 }
-{
-    if n < 16 { n } else { 16 }
+    l[..n.min(16)].iter().map(|x| chips_in(*x)).sum()
 }

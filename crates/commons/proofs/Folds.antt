@@ -8,7 +8,7 @@ use mathlib.Core.Path.{◌≡◌, refl, sym, ap, ◌∙◌}
 use mathlib.Core.Logic.{⊎_elim, ◌≢◌}
 use mathlib.Core.Bool.{Bool, true, false, cond, ◌&&◌, ◌||◌, or-true, false≢true}
 use Rattle.commons.specs.Folds.{sum_to, all_to, most_to, any_to}
-use Rattle.commons.proofs.Bools.{either, differ, and_both, or_cases, chosen}
+use Rattle.commons.proofs.Bools.{either, differ, and_both, and-true, and_assoc, or_cases, chosen}
 use Rattle.commons.proofs.Order.{lt_or_le, last_or}
 
 -- ---- sums
@@ -113,6 +113,17 @@ unfolding all_to
 all_hold zero p e = refl
 all_hold (suc n) p e = rw (all_hold n p (λ i h. e i (omega arith))) (e n (omega arith))
 
+pub all_alike : (n : ℕ) (p q : ℕ → Bool) → ((i : ℕ) → i < n → p i ≡ q i) → all_to n p ≡ all_to n q
+unfolding all_to
+all_alike zero p q e = refl
+all_alike (suc n) p q e = λ j. all_alike n p q (λ i h. e i (omega arith)) j && e n (omega arith) j
+
+-- the first of them told apart
+pub all_first : (n : ℕ) (p : ℕ → Bool) → all_to (suc n) p ≡ (p 0 && all_to n (λ i. p (suc i)))
+unfolding all_to
+all_first zero p = sym (and-true (p 0))
+all_first (suc n) p = (λ j. all_first n p j && p (suc n)) ∙ and_assoc (p 0) (all_to n (λ i. p (suc i))) (p (suc n))
+
 -- ---- the largest of those that pass
 pub most-le : (k : ℕ) (p : ℕ → Bool) (f : ℕ → ℕ) (i : ℕ) → i < k → p i ≡ true → f i ≤ most_to k p f
 unfolding most_to
@@ -134,6 +145,11 @@ most-at (suc k) p f h =
     (lt_or_le (cond (p k) (f k) 0) (most_to k p f))
 
 -- ---- whether one passes
+pub any_same : (k : ℕ) (p q : ℕ → Bool) → ((i : ℕ) → i < k → p i ≡ q i) → any_to k p ≡ any_to k q
+unfolding any_to
+any_same zero p q e = refl
+any_same (suc k) p q e = rw (any_same k p q (λ i h. e i (omega arith)), e k (omega arith))
+
 pub any_some : (k : ℕ) (p : ℕ → Bool) (i : ℕ) → i < k → p i ≡ true → any_to k p ≡ true
 unfolding any_to
 any_some zero p i h e = absurd (omega arith)

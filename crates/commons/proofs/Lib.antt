@@ -6,5 +6,6 @@ pub mod OneResult
 pub mod Order
 pub mod Pasted
 pub mod Promises
+pub mod Slices
 pub mod Stands
 pub mod Tests

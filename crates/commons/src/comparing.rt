@@ -5,15 +5,8 @@ ghost use Rattle.commons.specs.Stands.{stands_at};
 pub fn stands_at(l: &[u8], at: usize, s: &[u8]) -> bool
     ensures { result ≡ stands_at l.now at s.now }
 {
-    if l.len() < at {
-        return false;
+    match l.get(at..) {
+        Some(rest) => rest.starts_with(s),
+        None => false,
     }
-    if l.len() - at < s.len() {
-        return false;
-    }
-    let mut is = true;
-    for k in 0..s.len() {
-        is = is & (l[at + k] == s[k]);
-    }
-    is
 }

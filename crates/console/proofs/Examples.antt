@@ -1,5 +1,5 @@
 -- Scripts at both sides of the rules, and amounts as they are shown: one theorem, closed by computing. Assumes nothing.
-use Rattle.std.proofs.Common.{◌≡◌, true, false, List, [], ◌∷◌, map, pos, negsuc, refl}
+use Rattle.std.proofs.Common.{◌≡◌, ℕ, true, false, List, [], ◌∷◌, map, pos, negsuc, refl}
 use Prim.Native.String.{String}
 use lib.Ieee.{Float, nan, inf, fin, to_unsigned, of_int, eq, lt, le, add, is_nan, round, units, odd, size, climb, span}
 use Rattle.commons.specs.Filled.{filled}
@@ -12,8 +12,7 @@ use Rattle.table.specs.Added.{good_added}
 use Rattle.table.specs.Sound.{cards_ok, board_ok, sound_frame}
 use Rattle.builder.specs.Build.{small_blind_of, data_for, built_of}
 use Rattle.builder.specs.Cards.{card_rows, seen_to}
-use Rattle.script.specs.declared.print.Amount.{Amount}
-use Rattle.script.specs.declared.print.Amount.TheVariants.{Whole, NotWhole}
+use Rattle.std.specs.Prelude.{Option, Some, None}
 use Rattle.script.specs.Ascii.{bytes}
 use Rattle.script.specs.Line.{asked}
 use Rattle.script.specs.Number.{all_digits, unpadded, value_after, is_number}
@@ -45,15 +44,15 @@ scripts =
     ∷ []
 
 -- -0.0 is 0, and 2 ^ 24 is the last that is shown
-abbrev pub amounts : List (Float × Amount)
+abbrev pub amounts : List (Float × Option ℕ)
 amounts =
-    (fin true 0 (pos 0), Whole 0)
-    ∷ (fin false 1 (pos 24), Whole 16777216)
-    ∷ (fin false 1 (pos 25), NotWhole)
-    ∷ (fin false 1 (negsuc 0), NotWhole)
-    ∷ (fin true 1 (pos 0), NotWhole)
-    ∷ (inf false, NotWhole)
-    ∷ (nan, NotWhole)
+    (fin true 0 (pos 0), Some 0)
+    ∷ (fin false 1 (pos 24), Some 16777216)
+    ∷ (fin false 1 (pos 25), None)
+    ∷ (fin false 1 (negsuc 0), None)
+    ∷ (fin true 1 (pos 0), None)
+    ∷ (inf false, None)
+    ∷ (nan, None)
     ∷ []
 
 pub right :

@@ -1,56 +1,66 @@
 -- A refused line leaves what stands: an act whose number is not 0 is beside the state before it. Each step's own law says so of its
 -- record. Assumes nothing.
-use Rattle.std.proofs.Common.{◌≡◌, ℕ, Bool, true, false, cond, eqb, ◌≢◌, List, take, refl}
+use Rattle.refusals.specs.Rows.{Verdict, verdict_number}
+use Rattle.std.proofs.Common.{◌≡◌, ℕ, true, false, eqb, ◌≢◌, List, take, refl, ◌∙◌}
+use Rattle.std.specs.Prelude.{Some, Result, Ok, Err}
+use Rattle.refusals.specs.declared.AddedError.{AddedError}
 use Rattle.commons.proofs.Bools.{pick}
-use Rattle.refusals.specs.declared.Verdict.{Verdict}
-use Rattle.refusals.specs.declared.Verdict.TheVariants.{Stands, Refused}
 use Rattle.table.specs.declared.GameState.{GameState}
+use Rattle.table.specs.declared.TableStep.{TableStep}
+use Rattle.table.specs.declared.BetStep.{BetStep}
+use Rattle.table.specs.Pay.{bet_of, fold_of}
+use Rattle.table.specs.Rounds.{advance_of, complete_of}
 use Rattle.table.proofs.LawsRows.{bet-back, fold-back, advance-back, complete-back}
 use Rattle.settlement.specs.Settlement.{settled_of}
 use Rattle.settlement.proofs.Accepted.{refusal-keeps}
 use Rattle.script.specs.declared.line.Words.{Words}
 use Rattle.script.specs.declared.line.Line.{Line}
-use Rattle.script.specs.declared.line.Line.TheVariants.{Table, Advance, Fold, Bet, Forced, Complete, Settle, Key, Bad}
+use Rattle.script.specs.declared.line.Line.TheVariants.{Table, Advance, Fold, Bet, Forced, Complete, Settle, Key}
 use Rattle.script.specs.Line.{meaning_of}
 use Rattle.console.specs.declared.act.State.{State}
 use Rattle.console.specs.declared.act.Act.{Act}
 use Rattle.console.specs.Opening.{chips_of, opening_of}
-use Rattle.console.specs.Act.{on_table, acted, bad_line, needing, settled, ranked, opened, done, act_of}
+use Rattle.console.specs.Act.{act_number, on_table, acted, bad_line, needing, stepped, wagered, settled, ranked_at, ranked, opened, done, act_of}
+use Rattle.console.proofs.LawsAct.{needing_by, told-number}
 
 -- what stood is left unless the line was accepted
 abbrev pub Kept : State → Act → Type 0
-Kept s a = a.number ≢ 0 → a.state ≡ s
+Kept s a = act_number a ≢ 0 → a.state ≡ s
 
-needing-back : (s : State) (k : ℕ) (t : GameState) → (k ≢ 0 → t ≡ s.table) → Kept s (needing s k t)
-unfolding needing
-needing-back s k t b = go s.stands refl
-  where
-    go : (stands : Bool) → s.stands ≡ stands → Kept s (cond stands (acted k (on_table t s.key)) (bad_line s))
-    go true e h = rw (b h, ← e) refl
-    go false e h = refl
+-- a step of the table that stands leaves it unless its own number is 0
+given-back : (s : State) (t u : GameState) (a : Verdict) (k : ℕ) → s.table ≡ Some t → verdict_number a ≡ k → (k ≢ 0 → u ≡ t) → Kept s (acted a (on_table u s.key))
+given-back s t u a k e n b h = let same : u ≡ t = b (λ z. h (n ∙ z)) in rw (same, ← e) refl
 
 opened-back : (s : State) (t : GameState) (a : Verdict) → Kept s (opened s (record { answer = a; table = t }))
-opened-back s t Stands h = absurd (h refl)
-opened-back s t (Refused r) h = refl
+opened-back s t (Ok _) h = absurd (h refl)
+opened-back s t (Err r) h = refl
 
 ranked-back : (s : State) (count : ℕ) (ns : List ℕ) → Kept s (ranked s count ns)
 unfolding ranked
 ranked-back s count ns =
-    pick (Kept s) (eqb count s.table.num_players) (settled s (settled_of s.table (take 16 ns))) (bad_line s)
-    (needing-back s _ _ (λ h. (refusal-keeps s.table (take 16 ns) h).0))
-    (λ h. refl)
+    needing_by s (ranked_at s count ns) (Kept s) (λ h. refl)
+    (λ t e. pick (Kept s) (eqb count t.num_players) (settled s.key (settled_of t (take 16 ns))) (bad_line s)
+    (given-back s t _ _ _ e refl (λ h. (refusal-keeps t (take 16 ns) h).0))
+    (λ h. refl))
 
-done-back : (s : State) (w : Words) (l : Line) → Kept s (done s w l)
-done-back s w Table = opened-back s _ (opening_of s.key w.count w.numbers).answer
-done-back s w Advance = needing-back s _ _ (advance-back s.table)
-done-back s w Fold = needing-back s _ _ (fold-back s.table)
-done-back s w (Bet x) = needing-back s _ _ (bet-back s.table (chips_of x) false)
-done-back s w (Forced x) = needing-back s _ _ (bet-back s.table (chips_of x) true)
-done-back s w Complete = needing-back s _ _ (complete-back s.table)
-done-back s w Settle = ranked-back s w.count w.numbers
-done-back s w Key = λ h. absurd (h refl)
-done-back s w Bad = λ h. refl
+module _ (s : State) where
+  stepped-back : (f : GameState → TableStep) → ((t : GameState) → verdict_number (f t).answer ≢ 0 → (f t).table ≡ t) → Kept s (needing s (λ t. stepped s.key (f t)))
+  stepped-back f b = needing_by s (λ t. stepped s.key (f t)) (Kept s) (λ h. refl) (λ t e. given-back s t _ _ _ e (told-number (f t).answer) (b t))
 
-pub refused-keeps : (w : Words) (s : State) → (act_of w s).number ≢ 0 → (act_of w s).state ≡ s
+  wagered-back : (f : GameState → BetStep) → ((t : GameState) → verdict_number (f t).answer ≢ 0 → (f t).table ≡ t) → Kept s (needing s (λ t. wagered s.key (f t)))
+  wagered-back f b = needing_by s (λ t. wagered s.key (f t)) (Kept s) (λ h. refl) (λ t e. given-back s t _ _ _ e (told-number (f t).answer) (b t))
+
+  done-back : (w : Words) (l : Result Line AddedError) → Kept s (done s w l)
+  done-back w (Ok Table) = opened-back s _ (opening_of s.key w.count w.numbers).answer
+  done-back w (Ok Advance) = stepped-back advance_of advance-back
+  done-back w (Ok Fold) = stepped-back fold_of fold-back
+  done-back w (Ok (Bet x)) = wagered-back (λ t. bet_of t (chips_of x) false) (λ t. bet-back t (chips_of x) false)
+  done-back w (Ok (Forced x)) = wagered-back (λ t. bet_of t (chips_of x) true) (λ t. bet-back t (chips_of x) true)
+  done-back w (Ok Complete) = stepped-back complete_of complete-back
+  done-back w (Ok Settle) = ranked-back s w.count w.numbers
+  done-back w (Ok Key) = λ h. absurd (h refl)
+  done-back w (Err e) = λ h. refl
+
+pub refused-keeps : (w : Words) (s : State) → act_number (act_of w s) ≢ 0 → (act_of w s).state ≡ s
 unfolding act_of
 refused-keeps w s = done-back s w (meaning_of w)

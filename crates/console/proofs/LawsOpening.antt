@@ -1,12 +1,11 @@
 -- Laws of a `t` line: its amounts are laid one by one, sixteen are all of them, and so many stacks are a part of them. Assumes nothing.
-use Rattle.std.proofs.Common.{◌≡◌, ℕ, ◌+◌, ◌-◌, ◌≤◌, Bool, true, false, not, ◌&&◌, leb, List, length, get_or, take, drop, sym, refl, ap, ◌∙◌, arith, length-drop, length-take-le, get_or-drop, take_all, leb-true}
+use Rattle.std.proofs.Common.{◌≡◌, ℕ, ◌+◌, ◌-◌, ◌<◌, ◌≤◌, ◌≢◌, Bool, true, false, not, ◌&&◌, leb, List, length, get_or, set, take, drop, sym, refl, ap, ◌∙◌, arith, length-drop, length-take-le, get_or-drop, get_or-set_other, get_or-set_same, below_more, leb-true}
 use Prim.Native.Char.{code}
 use lib.ListN.{length-map, get_or-map}
+use lib.Seq.{get_or-take}
 use lib.Ieee.{Float}
-use Rattle.commons.specs.Filled.{filled}
+use Rattle.std.proofs.lemmas.List.FromFn.{fill_by_all}
 use Rattle.commons.proofs.Bools.{and_both}
-use Rattle.commons.proofs.Filled.{filled-end, filled_cong}
-use Rattle.commons.proofs.Pasted.{filled-front}
 use Rattle.refusals.specs.declared.Refusal.TheVariants.{Build, Added}
 use Rattle.refusals.specs.declared.GameStateBuilderError.TheVariants.{InvalidPlayerCount}
 use Rattle.refusals.specs.declared.AddedError.TheVariants.{BadLine}
@@ -19,7 +18,7 @@ use Rattle.script.specs.declared.line.Words.{Words}
 use Rattle.script.specs.declared.line.Line.TheVariants.{Table}
 use Rattle.script.specs.Line.{only_if, asked}
 use Rattle.console.specs.declared.act.State.{State}
-use Rattle.console.specs.Act.{done, act_of}
+use Rattle.console.specs.Act.{act_number, done, act_of}
 use Rattle.console.specs.Opening.{chips_of, amounts_from, told, open_rows, table_rows, opening_of}
 
 module _ (ns : List ℕ) where
@@ -31,10 +30,19 @@ module _ (ns : List ℕ) where
   unfolding amounts_from
   amount-at i = get_or-map chips_of (drop 4 ns) i 0 ∙ ap chips_of (get_or-drop 4 ns i 0)
 
-  pub amounts-all : (i : ℕ) (d out : List Float) → length ns ≡ 20 → length d ≡ 16 → out ≡ filled i d (λ k. chips_of (get_or ns (4 + k) 0)) → i ≤ 16 → 16 ≤ i → out ≡ amounts_from ns
-  amounts-all i d out e f p h g =
-      filled-end d (λ k. chips_of (get_or ns (4 + k) 0)) i 16 out p h g ∙ filled_cong d _ _ 16 (λ k b. sym (amount-at k)) ∙ filled-front (chips_of 0) d (amounts_from ns) 16 f (omega (arith, amounts-long e))
-      ∙ take_all 16 (amounts_from ns) (omega (arith, amounts-long e))
+  -- the amounts are laid from the front, each by its number
+  abbrev pub Laid : List Float → ℕ → Type 0
+  Laid out i = (k : ℕ) → k < i → get_or out k (chips_of 0) ≡ chips_of (get_or ns (4 + k) 0)
+
+  pub one_more : (out : List Float) (i : ℕ) → i < 16 → length out ≡ 16 → Laid out i → Laid (set out i (chips_of (get_or (take 16 (drop 4 ns)) i 0))) (i + 1)
+  one_more out i h f p =
+      let here : get_or (take 16 (drop 4 ns)) i 0 ≡ get_or ns (4 + i) 0 = get_or-take 16 (drop 4 ns) i 0 h ∙ get_or-drop 4 ns i 0 in
+      below_more _ _ (λ k b. let ne : k ≢ i = omega arith in rw get_or-set_other (p k b)) (let lt : i < length out = omega arith in rw (get_or-set_same, here))
+
+  pub amounts-all : (out : List Float) → length ns ≡ 20 → length out ≡ 16 → Laid out 16 → out ≡ amounts_from ns
+  amounts-all out e f p =
+      let amount : ℕ → Float = λ (k : ℕ). chips_of (get_or ns (4 + k) 0) in
+      fill_by_all amount out 16 (chips_of 0) f p ∙ sym (fill_by_all amount (amounts_from ns) 16 (chips_of 0) (amounts-long e) (λ k b. amount-at k))
 
   -- of these amounts, those of a line of so many numbers
   module _ (count : ℕ) (l : List Float) (h : count ≤ 20) (e : length ns ≡ 20) (is : l ≡ amounts_from ns) where
@@ -65,10 +73,10 @@ module _ (key : HandKey) (count : ℕ) (ns : List ℕ) where
   unfolding opening_of
   opening_order = answer-number (built_step (told key count ns)) not_built (λ (s : BuildStep). verdict_number s.answer) refl (λ r. refl) (judge (open_rows key count ns))
 
-pub table_order : (w : Words) (s : State) → w.letter ≡ code "t" → (act_of w s).number ≡ verdict_number (judge (table_rows s.key w.count w.numbers))
+pub table_order : (w : Words) (s : State) → w.letter ≡ code "t" → act_number (act_of w s) ≡ verdict_number (judge (table_rows s.key w.count w.numbers))
 unfolding act_of asked
-table_order w s e = (λ i. (done s w (asked (e i) w.count (get_or w.numbers 0 0))).number) ∙ by_count (leb 4 w.count)
+table_order w s e = (λ i. act_number (done s w (asked (e i) w.count (get_or w.numbers 0 0)))) ∙ by_count (leb 4 w.count)
   where
-    by_count : (b : Bool) → (done s w (only_if b Table)).number ≡ verdict_number (give_if (not b) (Added BadLine) (judge (open_rows s.key w.count w.numbers)))
+    by_count : (b : Bool) → act_number (done s w (only_if b Table)) ≡ verdict_number (give_if (not b) (Added BadLine) (judge (open_rows s.key w.count w.numbers)))
     by_count true = opening_order s.key w.count w.numbers
     by_count false = refl

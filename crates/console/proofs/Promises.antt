@@ -5,6 +5,9 @@ use Rattle.console.proofs as crate
 use Rattle.console.specs.contracts as promised
 
 -- ---- src/act.rt
+pub number : OneResult promised.act.Act.number.ended crate.act.Act.number.Reads.Learnt
+number κs a x y = only same
+
 pub obey : OneResult promised.act.obey.ended crate.act.obey.Reads.Learnt
 obey κs a x y = only same
 

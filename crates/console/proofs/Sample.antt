@@ -2,6 +2,7 @@
 use Rattle.std.proofs.Common.{◌≡◌, ℕ, List, [], ◌∷◌, ◌++◌, map, refl}
 use Prim.Native.String.{String}
 use lib.Ieee.{to_unsigned, of_int, eq, ne, lt, le, add, sub, mul, div, is_nan, round, units, odd, size, climb, span}
+use Rattle.std.specs.Prelude.{Option, Some, None}
 use Rattle.floats.specs.Helpers.{max_of, min_of, sign_of, abs_of, tol_of, near_zero}
 use Rattle.commons.specs.Filled.{filled}
 use Rattle.amounts.specs.Amounts.{sum_of, above_of, any_invalid}
@@ -11,6 +12,7 @@ use Rattle.rounds.specs.Paying.{owing_after}
 use Rattle.rounds.specs.Walk.{distance, walk_of}
 use Rattle.keys.specs.declared.HandKey.{HandKey}
 use Rattle.keys.specs.Keys.{key_of, no_key}
+use Rattle.table.specs.declared.GameState.{GameState}
 use Rattle.table.specs.Pay.{bet_of, fold_of}
 use Rattle.table.specs.Rounds.{first_turn, advance_of, complete_of}
 use Rattle.table.specs.Added.{good_added}
@@ -79,8 +81,13 @@ carried =
     ∷ ("k 3 2026 7\nt 0 10 5 0 1 1\nk 5 0 0\nt 0 10 5 0 1 1", (key_of 3 2026 7, key_of 5 0 0))
     ∷ []
 
+-- the key of the table that stands
+abbrev table_key : Option GameState → HandKey
+table_key None = no_key
+table_key (Some t) = t.added.key
+
 pub worked :
     (play_script (text script) ≡ text printed)
-    × (map (λ r. ((end_of (bytes r.0)).table.added.key, (end_of (bytes r.0)).key)) carried ≡ map (λ r. r.1) carried)
+    × (map (λ r. (table_key (end_of (bytes r.0)).table, (end_of (bytes r.0)).key)) carried ≡ map (λ r. r.1) carried)
 unfolding sum_to all_to is_whole chips_in all_whole sum_chips most_to any_to ahead share_of contends is_level top level_below is_layer pot_of put_in holds reached best wins share award is_payable awards_of counted_of after_dealer any_won in_chips raised raised_all rewards_of count_to to_unsigned of_int eq ne lt le add sub mul div is_nan round units odd size climb span max_of min_of sign_of abs_of tol_of near_zero filled sum_of above_of any_invalid has up_to with without seats_where first_from distance walk_of small_blind_of data_for built_of card_rows seen_to owing_after bet_of fold_of first_turn advance_of complete_of cards_ok board_ok good_added sound_frame asked all_digits unpadded value_after is_number digits_in decimal amount_text view_text line_text pieces lines all_numbers firsts lettered words_of amounts_from opening_of needing ranked act_of settled_of amount_of view_of at_start said after play_lines play_script state_after end_of
 worked = (refl, refl)

@@ -1,135 +1,135 @@
 // What a line does to what stands. How the line came, read from a script or otherwise, is no matter here.
-ghost use Rattle.std.specs.Prelude.{◌≡◌};
+ghost use Rattle.std.specs.Prelude.{◌≡◌, Err};
+ghost use Rattle.refusals.specs.declared.Refusal.TheVariants.{Added};
 ghost use Rattle.table.specs.Pay.{bet_of, fold_of};
 ghost use Rattle.table.specs.Rounds.{advance_of, complete_of};
-ghost use Rattle.console.specs.Act.{bad_line, needing, stepped, wagered, ranked, opened, keyed, act_of};
+ghost use Rattle.console.specs.Act.{act_number, acted, bad_line, needing, on_table, verdict_of, stepped, wagered, ranked, opened, keyed, act_of};
 ghost use Rattle.console.specs.Opening.{chips_of, opening_of};
 
 use crate::opening;
 use builder::BuildStep;
 use keys::HandKey;
-use refusals::{AddedError, Verdict};
+use refusals::{AddedError, Refusal};
 use script::line;
 use script::line::{Line, Words};
 use table::{BetStep, GameState, TableStep};
 
-// What stands between two lines: no table, or a table; and the key that the next table takes.
+// What stands between two lines: a table, or none; and the key that the next table takes.
 #[derive(Clone, Copy)]
 pub struct State {
-    pub stands: bool,
-    pub table: GameState,
+    pub table: Option<GameState>,
     pub key: HandKey,
 }
 
-// What a line gives: 0 or the refusal's number, and what stands after it.
+// What a line gives: that it is accepted or why it is refused, and what stands after it.
 #[derive(Clone, Copy)]
 pub struct Act {
-    pub number: u8,
+    pub answer: Result<(), Refusal>,
     pub state: State,
 }
 
-// A bad line leaves what stands.
-fn bad_line(s: State) -> Act
-    ensures { result ≡ bad_line s }
+impl Act {
+    // 0, or the number of the refusal.
+    pub fn number(self) -> u8
+        ensures { result ≡ act_number self }
+    {
+        refusals::verdict_number(self.answer)
+    }
+}
+
+// A refused line leaves what stands.
+fn refused(s: State, e: AddedError) -> Act
+    ensures { result ≡ acted (Err (Added e)) s }
 {
     Act {
-        number: AddedError::BadLine.number(),
+        answer: Err(Refusal::Added(e)),
         state: s,
     }
 }
 
-// A line that needs a table, with what its step gave of the table there.
-fn needing(s: State, number: u8, table: GameState) -> Act
-    ensures { result ≡ needing s number table }
+fn bad_line(s: State) -> Act
+    ensures { result ≡ bad_line s }
 {
-    let key = s.key;
-    if s.stands {
-        return Act {
-            number,
-            state: State {
-                stands: true,
-                table,
-                key,
-            },
-        };
+    refused(s, AddedError::BadLine)
+}
+
+// Of what a step answers, whether it is accepted.
+fn verdict_of<T: Copy>(answer: Result<T, Refusal>) -> Result<(), Refusal>
+    ensures { result ≡ verdict_of answer }
+{
+    answer.map(|_| ())
+}
+
+// What a step gives of the table that stands. The key stays.
+fn given(key: HandKey, answer: Result<(), Refusal>, table: GameState) -> Act
+    ensures { result ≡ acted answer (on_table table key) }
+{
+    Act {
+        answer,
+        state: State {
+            table: Some(table),
+            key,
+        },
     }
-    bad_line(s)
 }
 
-fn stepped(s: State, step: TableStep) -> Act
-    ensures { result ≡ stepped s step }
+fn stepped(key: HandKey, step: TableStep) -> Act
+    ensures { result ≡ stepped key step }
 {
-    let answer = step.answer;
-    let table = step.table;
-    needing(s, answer.number(), table)
+    given(key, verdict_of(step.answer), step.table)
 }
 
-fn wagered(s: State, step: BetStep) -> Act
-    ensures { result ≡ wagered s step }
+fn wagered(key: HandKey, step: BetStep) -> Act
+    ensures { result ≡ wagered key step }
 {
-    let answer = step.answer;
-    let table = step.table;
-    needing(s, answer.number(), table)
+    given(key, verdict_of(step.answer), step.table)
 }
 
 // A settlement has a rank for each seat.
 fn ranked(s: State, count: usize, numbers: [u16; 20]) -> Act
     ensures { result ≡ ranked s count numbers }
 {
-    let t = s.table;
-    if count == t.num_players {
-        let settled = settlement::settle(t, opening::ranks_of(numbers));
-        let answer = settled.answer;
-        let table = settled.table;
-        return needing(s, answer.number(), table);
+    match s.table {
+        Some(t) if count == t.num_players => {
+            let settled = settlement::settle(t, opening::ranks_of(numbers));
+            given(s.key, settled.answer, settled.table)
+        }
+        _ => bad_line(s),
     }
-    bad_line(s)
 }
 
 // A new table, which uses the key up; or what stood where it is refused.
 fn opened(s: State, step: BuildStep) -> Act
     ensures { result ≡ opened s step }
 {
-    let answer = step.answer;
-    let table = step.table;
-    match answer {
-        Verdict::Stands => Act {
-            number: 0,
+    match step.answer {
+        Ok(()) => Act {
+            answer: Ok(()),
             state: State {
-                stands: true,
-                table,
+                table: Some(step.table),
                 key: keys::NONE,
             },
         },
-        Verdict::Refused(r) => Act {
-            number: r.number(),
+        Err(r) => Act {
+            answer: Err(r),
             state: s,
         },
     }
-}
-
-fn wide(n: u16) -> u32
-    ensures { result ≡ n }
-{
-    n as u32
 }
 
 // The key for the next table, which asks whether it is good.
 fn keyed(s: State, numbers: [u16; 20]) -> Act
     ensures { result ≡ keyed s numbers }
 {
-    let table = s.table;
-    let key = HandKey {
-        code: numbers[0],
-        year: numbers[1],
-        hand: wide(numbers[2]),
-    };
     Act {
-        number: 0,
+        answer: Ok(()),
         state: State {
-            stands: s.stands,
-            table,
-            key,
+            table: s.table,
+            key: HandKey {
+                code: numbers[0],
+                year: numbers[1],
+                hand: u32::from(numbers[2]),
+            },
         },
     }
 }
@@ -138,52 +138,60 @@ fn keyed(s: State, numbers: [u16; 20]) -> Act
 fn new_table(s: State, count: usize, numbers: [u16; 20]) -> Act
     ensures { result ≡ opened s (opening_of s.key count numbers) }
 {
-    let key = s.key;
-    opened(s, opening::open_table(key, count, numbers))
+    opened(s, opening::open_table(s.key, count, numbers))
 }
 
 fn advance(s: State) -> Act
-    ensures { result ≡ stepped s (advance_of s.table) }
+    ensures { result ≡ needing s (λ t. stepped s.key (advance_of t)) }
 {
-    let t = s.table;
-    stepped(s, t.advance_round())
+    match s.table {
+        Some(t) => stepped(s.key, t.advance_round()),
+        None => bad_line(s),
+    }
 }
 
 fn fold(s: State) -> Act
-    ensures { result ≡ stepped s (fold_of s.table) }
+    ensures { result ≡ needing s (λ t. stepped s.key (fold_of t)) }
 {
-    let t = s.table;
-    stepped(s, t.fold())
+    match s.table {
+        Some(t) => stepped(s.key, t.fold()),
+        None => bad_line(s),
+    }
 }
 
 fn bet(s: State, x: u16, is_forced: bool) -> Act
-    ensures { result ≡ wagered s (bet_of s.table (chips_of x) is_forced) }
+    ensures { result ≡ needing s (λ t. wagered s.key (bet_of t (chips_of x) is_forced)) }
 {
-    let t = s.table;
-    wagered(s, t.do_bet(x as f32, is_forced))
+    match s.table {
+        Some(t) => wagered(s.key, t.do_bet(x as f32, is_forced)),
+        None => bad_line(s),
+    }
 }
 
 fn complete(s: State) -> Act
-    ensures { result ≡ stepped s (complete_of s.table) }
+    ensures { result ≡ needing s (λ t. stepped s.key (complete_of t)) }
 {
-    let t = s.table;
-    stepped(s, t.complete())
+    match s.table {
+        Some(t) => stepped(s.key, t.complete()),
+        None => bad_line(s),
+    }
 }
 
-// A line played. Where no table stands, what a step gives of it is dropped.
+// A line played.
+#[tactic(auto, unfolding(crate::specs::Act::act_of))]
 pub fn obey(w: Words, s: State) -> Act
     ensures { result ≡ act_of w s }
 {
     let numbers = w.numbers;
     match line::meaning(w) {
-        Line::Table => new_table(s, w.count, numbers),
-        Line::Advance => advance(s),
-        Line::Fold => fold(s),
-        Line::Bet(x) => bet(s, x, false),
-        Line::Forced(x) => bet(s, x, true),
-        Line::Complete => complete(s),
-        Line::Settle => ranked(s, w.count, numbers),
-        Line::Key => keyed(s, numbers),
-        Line::Bad => bad_line(s),
+        Ok(Line::Table) => new_table(s, w.count, numbers),
+        Ok(Line::Advance) => advance(s),
+        Ok(Line::Fold) => fold(s),
+        Ok(Line::Bet(x)) => bet(s, x, false),
+        Ok(Line::Forced(x)) => bet(s, x, true),
+        Ok(Line::Complete) => complete(s),
+        Ok(Line::Settle) => ranked(s, w.count, numbers),
+        Ok(Line::Key) => keyed(s, numbers),
+        Err(e) => refused(s, e),
     }
 }

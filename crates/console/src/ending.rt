@@ -22,11 +22,11 @@ pub fn end_of(script: &[u8]) -> State
 {
     let mut at: usize = 0;
     let mut c = play::start();
+    // By hand: the place moves by what was played.
     while at < script.len() {
         let p = play_part(script, at, c);
         at = p.at;
-        let next = p.console;
-        c = next;
+        c = p.console;
     }
     c.state
 }

@@ -4,7 +4,7 @@ ghost use Rattle.console.specs.Opening.{amounts_from, opening_of};
 
 use builder::{BuildStep, GameStateBuilder};
 use keys::HandKey;
-use refusals::{GameStateBuilderError, Refusal, Verdict};
+use refusals::{GameStateBuilderError, Refusal};
 use table::GameState;
 
 // The sixteen numbers after the first four, as amounts.
@@ -12,9 +12,8 @@ fn amounts_from(numbers: [u16; 20]) -> [f32; 16]
     ensures { result ≡ amounts_from numbers }
 {
     let mut list = [0.0f32; 16];
-    for i in 0..16 {
-        let x = numbers[4 + i];
-        list[i] = x as f32;
+    for (i, n) in numbers[4..].iter().enumerate() {
+        list[i] = *n as f32;
     }
     list
 }
@@ -24,7 +23,7 @@ pub fn ranks_of(numbers: [u16; 20]) -> [u16; 16]
     ensures { result ≡ take 16 numbers }
 {
     let mut list = [0u16; 16];
-    commons::copying::copy_u16(&mut list, 0, &numbers, 0, 16);
+    list.copy_from_slice(&numbers[..16]);
     list
 }
 
@@ -45,7 +44,7 @@ pub fn open_table(key: HandKey, count: usize, numbers: [u16; 20]) -> BuildStep
             .build();
     }
     BuildStep {
-        answer: Verdict::Refused(Refusal::Build(GameStateBuilderError::InvalidPlayerCount)),
+        answer: Err(Refusal::Build(GameStateBuilderError::InvalidPlayerCount)),
         table: GameState::none(),
     }
 }

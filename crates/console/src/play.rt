@@ -7,9 +7,8 @@ use crate::act::State;
 use crate::{act, shown};
 use refusals::AddedError;
 use script::line::Words;
-use script::print::{Text, View};
+use script::print::Text;
 use script::{print, reader};
-use table::GameState;
 
 // The number of the next line, and what stands before it.
 #[derive(Clone, Copy)]
@@ -40,8 +39,7 @@ pub fn start() -> Console
     Console {
         line_no: 1,
         state: State {
-            stands: false,
-            table: GameState::none(),
+            table: None,
             key: keys::NONE,
         },
     }
@@ -50,7 +48,7 @@ pub fn start() -> Console
 fn count_up(n: usize) -> usize
     ensures { result ≡ count_up n }
 {
-    if n < 18446744073709551615 { n + 1 } else { n }
+    n.saturating_add(1)
 }
 
 // A line played and its text: 72 bytes hold it.
@@ -61,7 +59,7 @@ pub fn play_line(w: Words, c: Console) -> Turn
     let stood = c.state;
     let a = act::obey(w, stood);
     let state = a.state;
-    let text = print::print(c.line_no, a.number, shown::view_of(state));
+    let text = print::print(c.line_no, a.number(), shown::view_of(state));
     Turn {
         text,
         console: Console {
@@ -79,23 +77,15 @@ fn play_some(script: &[u8], from: usize, console: Console, out: &mut [u8]) -> Pl
     let mut at = from;
     let mut c = console;
     let mut n: usize = 0;
-    loop {
-        if script.len() <= at {
-            break;
-        }
-        if out.len() - n < 72 {
-            break;
-        }
+    // By hand: the place moves by what was read there.
+    while at < script.len() && 72 <= out.len() - n {
         let read = reader::read_line(script, at);
-        let words = read.words;
-        let turn = play_line(words, c);
+        let turn = play_line(read.words, c);
         let text = turn.text;
-        let bytes = text.bytes;
-        commons::copying::copy_u8(out, n, &bytes, 0, text.len);
+        commons::copying::copy(out, n, &text.bytes, 0, text.len);
         n += text.len;
         at = read.next;
-        let next = turn.console;
-        c = next;
+        c = turn.console;
     }
     Played {
         at,
@@ -116,9 +106,9 @@ fn refuse(n: usize, at: usize, console: Console, out: &mut [u8]) -> Played
             len: 0,
         };
     }
-    let text = print::print(0, AddedError::ScriptTooLong.number(), View::NoTable);
+    let text = print::print(0, AddedError::ScriptTooLong.number(), None);
     let bytes = text.bytes;
-    commons::copying::copy_u8(out, 0, &bytes, 0, text.len);
+    commons::copying::copy(out, 0, &bytes, 0, text.len);
     Played {
         at: n,
         console,

@@ -15,7 +15,7 @@ use Rattle.journal.specs.Read.{head_at, read_of}
 use Rattle.journal.specs.declared.block.Title.{Title}
 use Rattle.journal.specs.declared.block.Head.{Head}
 use Rattle.refusals.specs.declared.JournalError.TheVariants.{BadJournal}
-use Rattle.journal.specs.declared.block.BlockRead.TheVariants.{Refused, Block}
+use Rattle.std.specs.Prelude.{Ok, Err}
 use Rattle.commons.proofs.Bools.{either}
 use Rattle.commons.proofs.Folds.{all-at}
 use Rattle.journal.proofs.LawsBlock.{accepted, refused, ok-year, ok-index, ok-last, ok-some, ok-used, ok-full, ok-edition, ok-entries}
@@ -25,10 +25,10 @@ use Rattle.journal.proofs.LawsPut.{four_bytes_lem}
 
 -- a written block reads as its key, index, last bit and count, and its entries are those written
 pub reads-back : (k : Title) (index last : ℕ) (ws : List ℕ) → Fit k index last ws
-    → read_of (block_of k index last ws) ≡ Block (record { title = k; index = index; last = eqb last 1; used = length ws })
+    → read_of (block_of k index last ws) ≡ Ok (record { title = k; index = index; last = eqb last 1; used = length ws })
 reads-back k index last ws f =
     sym (accepted (block_of k index last ws) (written-ok k index last ws f))
-    ∙ ap Block (λ i. record { title = title-back k index last ws i; index = index_back k index last ws i; last = eqb (last-back k index last ws i) 1; used = used-back k index last ws i })
+    ∙ ap Ok (λ i. record { title = title-back k index last ws i; index = index_back k index last ws i; last = eqb (last-back k index last ws i) 1; used = used-back k index last ws i })
 
 pub same_entries : (k : Title) (index last : ℕ) (ws : List ℕ) → Fit k index last ws → entries_of (block_of k index last ws) ≡ ws
 same_entries k index last ws f = entries-back k index last ws f.most
@@ -87,7 +87,7 @@ module _ (b : List ℕ) (small : (i : ℕ) → byte b i < 256) (ok : block_ok b 
   read-once = rw (sym (bit-of (byte b 9) (ok-last b ok))) (one_image b small ok)
 
 -- what reads is the block of what it reads as
-pub one_block : (b : List ℕ) (h : Head) → ((i : ℕ) → byte b i < 256) → read_of b ≡ Block h → b ≡ block_of h.title h.index (bit h.last) (entries_of b)
+pub one_block : (b : List ℕ) (h : Head) → ((i : ℕ) → byte b i < 256) → read_of b ≡ Ok h → b ≡ block_of h.title h.index (bit h.last) (entries_of b)
 one_block b h small e = at (either (block_ok b))
   where
     at : (block_ok b ≡ true) ⊎ (block_ok b ≡ false) → b ≡ block_of h.title h.index (bit h.last) (entries_of b)
@@ -95,7 +95,7 @@ one_block b h small e = at (either (block_ok b))
     at (inr f) = absurd (let p = refused b f ∙ e in let z : ◌≡◌ {A = ℕ} 0 1 = cc in omega arith)
 
 -- a block is refused exactly where a test fails, with 27
-pub refused_iff : (b : List ℕ) → (read_of b ≡ Refused BadJournal → block_ok b ≡ false) × (block_ok b ≡ false → read_of b ≡ Refused BadJournal)
+pub refused_iff : (b : List ℕ) → (read_of b ≡ Err BadJournal → block_ok b ≡ false) × (block_ok b ≡ false → read_of b ≡ Err BadJournal)
 refused_iff b =
     (λ e. ⊎_elim (λ t. absurd (let p = accepted b t ∙ e in let z : ◌≡◌ {A = ℕ} 0 1 = cc in omega arith)) (λ f. f) (either (block_ok b)), λ f. sym (refused b f))
 

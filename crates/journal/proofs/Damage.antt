@@ -15,7 +15,7 @@ use Rattle.journal.specs.Check.{byte}
 use Rattle.journal.specs.Block.{block_ok}
 use Rattle.journal.specs.Hand.{piece, blocks_in, hand_ok, reads}
 use Rattle.journal.specs.declared.hand.HandHead.{HandHead}
-use Rattle.journal.specs.declared.hand.HandRead.TheVariants.{Refused, Hand}
+use Rattle.std.specs.Prelude.{Ok, Err}
 use Rattle.journal.proofs.LawsDamage.{byte-found, bit_found}
 use Rattle.journal.proofs.LawsReads.{piece_byte}
 use Rattle.journal.proofs.LawsUnique.{whole, block-ok}
@@ -41,7 +41,7 @@ piece-set b i v =
     ∙ take-set (drop (512 * (i / 512)) b) 512 (i % 512) v
 
 -- ---- the hand
-module _ (b : List ℕ) (small : (i : ℕ) → byte b i < 256) (h : HandHead) (e : reads b ≡ Hand h) (i v : ℕ) (l : i < length b) (f : v < 256) where
+module _ (b : List ℕ) (small : (i : ℕ) → byte b i < 256) (h : HandHead) (e : reads b ≡ Ok h) (i v : ℕ) (l : i < length b) (f : v < 256) where
   ok : hand_ok b ≡ true
   ok = (read_ok b h e).0
 
@@ -65,18 +65,18 @@ module _ (b : List ℕ) (small : (i : ℕ) → byte b i < 256) (h : HandHead) (e
       (either (eqb j i))
 
   -- a block that is found out is the hand's refusal
-  refused : block_ok (set block (i % 512) v) ≡ false → reads (set b i v) ≡ Refused BadJournal
+  refused : block_ok (set block (i % 512) v) ≡ false → reads (set b i v) ≡ Err BadJournal
   unfolding reads
   refused g = let n : hand_ok (set b i v) ≡ false = never (hand_ok (set b i v)) (λ t. differ (block_ok (piece 512 (set b i v) (i / 512))) (block-ok (set b i v) changed-small t (i / 512) (rw (length-set b i v) inside)) (ap block_ok (piece-set b i v) ∙ g)) in simp n
 
-  pub hand-byte-found : (byte b i ≡ v → ⊥) → (((byte b i ≡ 0) × (v ≡ 255)) ⊎ ((byte b i ≡ 255) × (v ≡ 0)) → ⊥) → reads (set b i v) ≡ Refused BadJournal
+  pub hand-byte-found : (byte b i ≡ v → ⊥) → (((byte b i ≡ 0) × (v ≡ 255)) ⊎ ((byte b i ≡ 255) × (v ≡ 0)) → ⊥) → reads (set b i v) ≡ Err BadJournal
   hand-byte-found ne spare = refused (byte-found block good (i % 512) v (omega arith) (rw same (small i)) f (λ q. ne (sym same ∙ q)) (λ q. spare (turn q)))
     where
       turn : ((byte block (i % 512) ≡ 0) × (v ≡ 255)) ⊎ ((byte block (i % 512) ≡ 255) × (v ≡ 0)) → ((byte b i ≡ 0) × (v ≡ 255)) ⊎ ((byte b i ≡ 255) × (v ≡ 0))
       turn (inl (a, c)) = inl (sym same ∙ a, c)
       turn (inr (a, c)) = inr (sym same ∙ a, c)
 
-  pub hand-bit-found : (k : ℕ) → k < 8 → (v ≡ byte b i + 2 ^ k) ⊎ (byte b i ≡ v + 2 ^ k) → reads (set b i v) ≡ Refused BadJournal
+  pub hand-bit-found : (k : ℕ) → k < 8 → (v ≡ byte b i + 2 ^ k) ⊎ (byte b i ≡ v + 2 ^ k) → reads (set b i v) ≡ Err BadJournal
   hand-bit-found k g q = refused (bit_found block good (i % 512) v (omega arith) k g (turn q))
     where
       turn : (v ≡ byte b i + 2 ^ k) ⊎ (byte b i ≡ v + 2 ^ k) → (v ≡ byte block (i % 512) + 2 ^ k) ⊎ (byte block (i % 512) ≡ v + 2 ^ k)

@@ -11,7 +11,7 @@ use Rattle.commons.proofs.Order.{lt_or_le}
 use Rattle.script.specs.declared.line.Words.{Words}
 use Rattle.script.specs.Words.{no_words}
 use Rattle.journal.specs.declared.hand.HandHead.{HandHead}
-use Rattle.journal.specs.declared.hand.HandRead.TheVariants.{Hand}
+use Rattle.std.specs.Prelude.{Ok}
 use Rattle.journal.specs.Lines.{leading, lines_of}
 use Rattle.journal.specs.Hand.{words_of, reads}
 use Rattle.journal.specs.Reading.{as_played, count_given, rest_from, line_from, line_read}
@@ -59,7 +59,7 @@ module _ (b : List ℕ) where
   given-most {at} (line h g) = omega (arith, given-most g, (moves at h).0)
 
 -- ---- bytes that read as a hand
-module _ (b : List ℕ) (h : HandHead) (e : reads b ≡ Hand h) where
+module _ (b : List ℕ) (h : HandHead) (e : reads b ≡ Ok h) where
   given_so : {at : ℕ} {ws : List Words} → At b h.entries at → Given b at ws → ws ≡ left b h.entries at
   given_so {at} a (ends l) = sym (left-none b h e at (omega (arith, count-is b h e)))
   given_so {at} a (line l g) =

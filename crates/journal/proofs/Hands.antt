@@ -16,8 +16,7 @@ use Rattle.journal.specs.Hand.{block_count, piece, hand_bytes, writes, blocks_in
 use Rattle.journal.specs.declared.block.Title.{Title}
 use Rattle.refusals.specs.declared.JournalError.TheVariants.{BadJournal, NotKept}
 use Rattle.journal.specs.declared.hand.HandHead.{HandHead}
-use Rattle.journal.specs.declared.hand.HandRead.TheVariants.{Refused, Hand}
-use Rattle.journal.specs.declared.hand.HandWritten.TheVariants.{Denied, Blocks}
+use Rattle.std.specs.Prelude.{Ok, Err}
 use Rattle.commons.proofs.Bools.{and_both, or_neither, turned}
 use Rattle.commons.proofs.Order.{lt_or_le}
 use Rattle.journal.proofs.LawsBlock.{ok-year, ok-index, ok-edition}
@@ -34,15 +33,15 @@ pub record KeyFits (k : Title) : Type 0 where
   pub hand : k.key.hand < 4294967296
 
 -- ---- what the writer takes
-pub kept-writes : (k : Title) (ws : List ℕ) → Kept k ws → writes k ws ≡ Blocks (block_count (length ws))
+pub kept-writes : (k : Title) (ws : List ℕ) → Kept k ws → writes k ws ≡ Ok (block_count (length ws))
 unfolding writes
 kept-writes k ws t = simp (t.edition, t.lines, ne_eqb k.key.year 0 t.keyed, le-ltb 30600 (length ws) t.most)
 
-pub writes_kept : (k : Title) (ws : List ℕ) (n : ℕ) → KeyFits k → writes k ws ≡ Blocks n → Kept k ws × (n ≡ block_count (length ws))
+pub writes_kept : (k : Title) (ws : List ℕ) (n : ℕ) → KeyFits k → writes k ws ≡ Ok n → Kept k ws × (n ≡ block_count (length ws))
 unfolding writes
 writes_kept k ws n f e = lines (is_edition k.edition && spells ws) refl e
   where
-    key : (u : Bool) → not (is_key k.key) || ltb 30600 (length ws) ≡ u → is_edition k.edition && spells ws ≡ true → cond u (Denied NotKept) (Blocks (block_count (length ws))) ≡ Blocks n → Kept k ws × (n ≡ block_count (length ws))
+    key : (u : Bool) → not (is_key k.key) || ltb 30600 (length ws) ≡ u → is_edition k.edition && spells ws ≡ true → cond u (Err NotKept) (Ok (block_count (length ws))) ≡ Ok n → Kept k ws × (n ≡ block_count (length ws))
     key true g l e = absurd (let z : ◌≡◌ {A = ℕ} 0 1 = cc in omega arith)
     key false g l e =
         let p = or_neither (not (is_key k.key)) (ltb 30600 (length ws)) g in
@@ -50,23 +49,23 @@ writes_kept k ws n f e = lines (is_edition k.edition && spells ws) refl e
         let y = turned (eqb k.key.year 0) true (turned (is_key k.key) false p.0) in
         (record { code = f.code; year = f.year; keyed = eqb-false k.key.year 0 y; hand = f.hand; edition = q.0; lines = q.1; most = ltb-false 30600 (length ws) p.1 }, cc)
 
-    lines : (u : Bool) → is_edition k.edition && spells ws ≡ u → cond u (cond (not (is_key k.key) || ltb 30600 (length ws)) (Denied NotKept) (Blocks (block_count (length ws)))) (Denied BadJournal) ≡ Blocks n → Kept k ws × (n ≡ block_count (length ws))
+    lines : (u : Bool) → is_edition k.edition && spells ws ≡ u → cond u (cond (not (is_key k.key) || ltb 30600 (length ws)) (Err NotKept) (Ok (block_count (length ws)))) (Err BadJournal) ≡ Ok n → Kept k ws × (n ≡ block_count (length ws))
     lines true l e = key (not (is_key k.key) || ltb 30600 (length ws)) refl l e
     lines false l e = absurd (let z : ◌≡◌ {A = ℕ} 0 1 = cc in omega arith)
 
 -- ---- what was written reads back
-pub round_trip : (k : Title) (ws : List ℕ) (n : ℕ) → KeyFits k → writes k ws ≡ Blocks n
-    → (reads (hand_bytes k ws) ≡ Hand (record { title = k; blocks = n; entries = length ws })) × (words_of (hand_bytes k ws) ≡ ws)
+pub round_trip : (k : Title) (ws : List ℕ) (n : ℕ) → KeyFits k → writes k ws ≡ Ok n
+    → (reads (hand_bytes k ws) ≡ Ok (record { title = k; blocks = n; entries = length ws })) × (words_of (hand_bytes k ws) ≡ ws)
 round_trip k ws n f e =
     let t = writes_kept k ws n f e in
     (reads-hand k ws t.0 ∙ rw t.1, words_are k ws t.0)
 
 -- ---- what reads was written
-pub read_ok : (b : List ℕ) (h : HandHead) → reads b ≡ Hand h → (hand_ok b ≡ true) × (record { title = title_at b; blocks = blocks_in b; entries = word_count b } ≡ h)
+pub read_ok : (b : List ℕ) (h : HandHead) → reads b ≡ Ok h → (hand_ok b ≡ true) × (record { title = title_at b; blocks = blocks_in b; entries = word_count b } ≡ h)
 unfolding reads
 read_ok b h e = at (hand_ok b) refl e
   where
-    at : (u : Bool) → hand_ok b ≡ u → cond u (Hand (record { title = title_at b; blocks = blocks_in b; entries = word_count b })) (Refused BadJournal) ≡ Hand h → (hand_ok b ≡ true) × (record { title = title_at b; blocks = blocks_in b; entries = word_count b } ≡ h)
+    at : (u : Bool) → hand_ok b ≡ u → cond u (Ok (record { title = title_at b; blocks = blocks_in b; entries = word_count b })) (Err BadJournal) ≡ Ok h → (hand_ok b ≡ true) × (record { title = title_at b; blocks = blocks_in b; entries = word_count b } ≡ h)
     at true q e = (q, cc)
     at false q e = absurd (let z : ◌≡◌ {A = ℕ} 0 1 = cc in omega arith)
 
@@ -95,13 +94,13 @@ module _ (b : List ℕ) (small : (i : ℕ) → byte b i < 256) where
           most = omega arith;
         }
 
-  pub one_image : (h : HandHead) → reads b ≡ Hand h
-      → (writes h.title (words_of b) ≡ Blocks h.blocks) × (b ≡ hand_bytes h.title (words_of b)) × (length (words_of b) ≡ h.entries)
+  pub one_image : (h : HandHead) → reads b ≡ Ok h
+      → (writes h.title (words_of b) ≡ Ok h.blocks) × (b ≡ hand_bytes h.title (words_of b)) × (length (words_of b) ≡ h.entries)
   one_image h e =
       let q = read_ok b h e in
       let ok = q.0 in
       rw (sym q.1) (
-        kept-writes (title_at b) (words_of b) (read_kept ok) ∙ ap Blocks (blocks_are b small ok),
+        kept-writes (title_at b) (words_of b) (read_kept ok) ∙ ap Ok (blocks_are b small ok),
         one-hand b small ok,
         words_long b (word_count b) 0,
       )
@@ -116,12 +115,12 @@ words_small b small i =
 
 -- ---- the same of lines: a hand of lines is written, and reads back as the same lines; what reads is the hand of its lines
 pub lines_trip : (k : Title) (ls : List Line) → KeyFits k → (k.key.year ≡ 0 → ⊥) → is_edition k.edition ≡ true → lines_ok ls ≡ true → length (tape_of ls) ≤ 30600
-    → (reads (hand_bytes k (tape_of ls)) ≡ Hand (record { title = k; blocks = block_count (length (tape_of ls)); entries = length (tape_of ls) })) × (lines_of (words_of (hand_bytes k (tape_of ls))) ≡ ls)
+    → (reads (hand_bytes k (tape_of ls)) ≡ Ok (record { title = k; blocks = block_count (length (tape_of ls)); entries = length (tape_of ls) })) × (lines_of (words_of (hand_bytes k (tape_of ls))) ≡ ls)
 lines_trip k ls f y v e m =
     let t : Kept k (tape_of ls) = record { code = f.code; year = f.year; keyed = y; hand = f.hand; edition = v; lines = lines_spell ls e; most = m } in
     (reads-hand k (tape_of ls) t, ap lines_of (words_are k (tape_of ls) t) ∙ lines-back ls e)
 
-pub lines_image : (b : List ℕ) → ((i : ℕ) → byte b i < 256) → (h : HandHead) → reads b ≡ Hand h
+pub lines_image : (b : List ℕ) → ((i : ℕ) → byte b i < 256) → (h : HandHead) → reads b ≡ Ok h
     → (lines_ok (lines_of (words_of b)) ≡ true) × (b ≡ hand_bytes h.title (tape_of (lines_of (words_of b))))
 lines_image b small h e =
     let q = read_ok b h e in

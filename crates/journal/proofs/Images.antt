@@ -22,10 +22,9 @@ use Rattle.journal.specs.Lines.{Line, lines_ok, tape_of, lines_of}
 use Rattle.journal.specs.Hand.{block_count, piece, block_at, hand_bytes, writes, reads, words_of}
 use Rattle.journal.specs.Lay.{all_entries, block_laid, lays}
 use Rattle.journal.specs.declared.block.Title.{Title}
-use Rattle.journal.specs.declared.block.BlockRead.TheVariants.{Block}
+use Rattle.std.specs.Prelude.{Ok}
 use Rattle.journal.specs.declared.hand.HandHead.{HandHead}
-use Rattle.journal.specs.declared.hand.HandWritten.TheVariants.{Blocks}
-use Rattle.journal.specs.declared.laying.BlockLaid.TheVariants.{More, Last}
+use Rattle.journal.specs.declared.laying.Laid.TheVariants.{More, Last}
 use Rattle.journal.proofs.LawsWrites.{take-most}
 use Rattle.journal.proofs.LawsSpelt.{lines-back}
 use Rattle.journal.proofs.LawsTrip.{Kept, bit-most, block-is, spells-entries}
@@ -38,7 +37,7 @@ use Rattle.journal.proofs.Hands.{KeyFits, round_trip}
 abbrev head_of : Title → ℕ → List ℕ → HandHead
 head_of k n ws = record { title = k; blocks = n; entries = length ws }
 
-pub same_image : (k m : Title) (ws us : List ℕ) (n p : ℕ) → KeyFits k → KeyFits m → writes k ws ≡ Blocks n → writes m us ≡ Blocks p
+pub same_image : (k m : Title) (ws us : List ℕ) (n p : ℕ) → KeyFits k → KeyFits m → writes k ws ≡ Ok n → writes m us ≡ Ok p
     → hand_bytes k ws ≡ hand_bytes m us → (k ≡ m) × (ws ≡ us)
 same_image k m ws us n p f g e h q =
     let r = round_trip k ws n f e in
@@ -49,7 +48,7 @@ same_image k m ws us n p f g e h q =
 
 -- and so are their lines
 pub same_lines : (k m : Title) (ls ms : List Line) (n p : ℕ) → KeyFits k → KeyFits m → lines_ok ls ≡ true → lines_ok ms ≡ true
-    → writes k (tape_of ls) ≡ Blocks n → writes m (tape_of ms) ≡ Blocks p → hand_bytes k (tape_of ls) ≡ hand_bytes m (tape_of ms) → (k ≡ m) × (ls ≡ ms)
+    → writes k (tape_of ls) ≡ Ok n → writes m (tape_of ms) ≡ Ok p → hand_bytes k (tape_of ls) ≡ hand_bytes m (tape_of ms) → (k ≡ m) × (ls ≡ ms)
 same_lines k m ls ms n p f g a c e h q =
     let s = same_image k m (tape_of ls) (tape_of ms) n p f g e h q in
     (s.0, sym (lines-back ls a) ∙ ap lines_of s.1 ∙ lines-back ms c)
@@ -87,7 +86,7 @@ module _ (k : Title) (ws : List ℕ) (t : Kept k ws) (i : ℕ) (h : i < block_co
           let d = most-long 120 rest in
           rw (get_or-take 120 rest j 0 (omega arith), get_or-drop (120 * i) ws j 0) (spells-entries ws t.lines (120 * i + j) (omega (arith, rest-long, d)))
 
-  pub laid-says : lays k i rest ≡ cond (eqb (i + 1) (block_count (length ws))) Last More
+  pub laid-says : lays k i rest ≡ Ok (cond (eqb (i + 1) (block_count (length ws))) Last More)
   unfolding lays
   laid-says =
       let s : leb 1 (length rest) ≡ true = le-leb 1 (length rest) (omega (arith, rest-long)) in
@@ -117,7 +116,7 @@ module _ (k : Title) (i : ℕ) (held more : List ℕ) (h : 120 < length held) wh
       rw (le-ltb (30600 - 120 * i) (length held) (omega arith), le-ltb (30600 - 120 * i) (length (held ++ more)) m)))
 
   -- where all that is left is laid, what is held is laid, as the same block
-  pub laid-held : lays k i (held ++ more) ≡ More → (lays k i held ≡ More) × (block_laid k i held ≡ block_laid k i (held ++ more))
+  pub laid-held : lays k i (held ++ more) ≡ Ok More → (lays k i held ≡ Ok More) × (block_laid k i held ≡ block_laid k i (held ++ more))
   laid-held e = (held-says (laid-room k i (held ++ more) false e) ∙ e, held-block)
 
 -- ---- what is laid reads back
@@ -126,8 +125,8 @@ unfolding all_entries
 entry_of ws e = all-at (length ws) (λ j. is_entry (get_or ws j 0)) e
 
 -- it reads as this block, the last where it is answered so, with the first 120 of what is left as its entries
-pub laid-reads : (k : Title) (i : ℕ) (ws : List ℕ) (t : Bool) → KeyFits k → lays k i ws ≡ cond t Last More
-    → (read_of (block_laid k i ws) ≡ Block (record { title = k; index = i; last = t; used = min 120 (length ws) })) × (entries_of (block_laid k i ws) ≡ take 120 ws)
+pub laid-reads : (k : Title) (i : ℕ) (ws : List ℕ) (t : Bool) → KeyFits k → lays k i ws ≡ Ok (cond t Last More)
+    → (read_of (block_laid k i ws) ≡ Ok (record { title = k; index = i; last = t; used = min 120 (length ws) })) × (entries_of (block_laid k i ws) ≡ take 120 ws)
 unfolding block_laid
 laid-reads k i ws t f e =
     let g = laid_by k i ws t e in
@@ -151,7 +150,7 @@ laid-reads k i ws t f e =
       full = full t g.2;
       entries = entry_of (take 120 ws) b.1;
     } in
-    rw g.2 (reads-back k i (bit t) (take 120 ws) fit ∙ (λ j. Block (record { title = k; index = i; last = bit_is t j; used = n j })), same_entries k i (bit t) (take 120 ws) fit)
+    rw g.2 (reads-back k i (bit t) (take 120 ws) fit ∙ (λ j. Ok (record { title = k; index = i; last = bit_is t j; used = n j })), same_entries k i (bit t) (take 120 ws) fit)
   where
     bit_is : (t : Bool) → eqb (bit t) 1 ≡ t
     bit_is true = refl

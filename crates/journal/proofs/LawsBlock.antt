@@ -1,7 +1,7 @@
--- What the tests of a block say, one by one. Assumes nothing.
+-- What the tests of a block say, one by one, and a test as a byte. Assumes nothing.
 use Prim.Native.Nat.{ℕ, ◌≤◌, ◌<◌}
 use native.Mathlib.Omega.{arith}
-use mathlib.Core.Path.{◌≡◌, ◌∙◌}
+use mathlib.Core.Path.{◌≡◌, refl, ◌∙◌}
 use mathlib.Core.Bool.{Bool, true, false, not, ◌&&◌, ◌||◌}
 use mathlib.Core.List.{List}
 use borrow.Author.Tests.{eq-eqb, ne_eqb, eqb-true, eqb-false, ltb-true, leb-true}
@@ -11,12 +11,18 @@ use Rattle.commons.proofs.Tests.{test_at}
 use Rattle.commons.proofs.Bools.{turned}
 use Rattle.journal.specs.Check.{byte, sum_check, run_check, check_of, check_given}
 use Rattle.journal.specs.Entry.{two_at}
-use Rattle.journal.specs.Block.{is_edition, zero_at, entries_fit, block_tests, block_ok}
+use Rattle.std.specs.Int.{from_bool}
+use Rattle.journal.specs.Block.{bit, is_edition, zero_at, entries_fit, block_tests, block_ok}
 use Rattle.journal.specs.Read.{head_at, read_of}
 use Rattle.journal.specs.declared.sums.Check.{Check}
 use Rattle.refusals.specs.declared.JournalError.TheVariants.{BadJournal}
-use Rattle.journal.specs.declared.block.BlockRead.TheVariants.{Refused, Block}
+use Rattle.std.specs.Prelude.{Ok, Err}
 use Rattle.journal.proofs.LawsCheck.{long}
+
+-- a test as a byte
+pub test_byte : (t : Bool) → from_bool t ≡ bit t
+test_byte true = refl
+test_byte false = refl
 
 module _ (b : List ℕ) where
   pub no_block : (length b ≡ 512 → ⊥) → false ≡ block_ok b
@@ -31,11 +37,11 @@ module _ (b : List ℕ) where
       let e : c ≡ check_of b = p ∙ long b (omega arith) in
       rw (e, q, u, r, s, t) (simp (eq-eqb (length b) 512 n))
 
-  pub refused : block_ok b ≡ false → Refused BadJournal ≡ read_of b
+  pub refused : block_ok b ≡ false → Err BadJournal ≡ read_of b
   unfolding read_of
   refused e = simp e
 
-  pub accepted : block_ok b ≡ true → Block (head_at b) ≡ read_of b
+  pub accepted : block_ok b ≡ true → Ok (head_at b) ≡ read_of b
   unfolding read_of
   accepted e = simp e
 

@@ -4,10 +4,10 @@ use native.Mathlib.Omega.{arith}
 use mathlib.Core.Path.{◌≡◌, refl, sym, ap, ◌∙◌}
 use mathlib.Core.Bool.{Bool, true, false, cond, not, ◌&&◌, ◌||◌}
 use mathlib.Core.Logic.{⊎_elim}
-use mathlib.Core.List.{List, ◌++◌}
-use borrow.Author.Tests.{lt-ltb, le-ltb, le-leb, lt-leb, ltb-false}
+use mathlib.Core.List.{List}
+use borrow.Author.Tests.{le-leb, lt-leb, ltb-false}
 use lib.Dec.{ltb, leb}
-use lib.ListN.{length, take, drop}
+use lib.ListN.{length, take}
 use lib.Seq.{take_all, length-take-le}
 use Rattle.commons.proofs.Bools.{or_neither}
 use Rattle.commons.proofs.Order.{lt_or_le}
@@ -15,10 +15,11 @@ use Rattle.refusals.specs.declared.JournalError.{JournalError}
 use Rattle.refusals.specs.declared.JournalError.TheVariants.{BadJournal, NotKept}
 use Rattle.keys.specs.Keys.{is_key}
 use Rattle.journal.specs.Block.{is_edition}
-use Rattle.journal.specs.Lay.{all_entries, block_laid, lays, lay_room, lays_into, lay_after}
+use Rattle.journal.specs.Lay.{all_entries, lays}
 use Rattle.journal.specs.declared.block.Title.{Title}
-use Rattle.journal.specs.declared.laying.BlockLaid.{BlockLaid}
-use Rattle.journal.specs.declared.laying.BlockLaid.TheVariants.{Denied, NoRoom, More, Last}
+use Rattle.std.specs.Prelude.{Result, Ok, Err}
+use Rattle.journal.specs.declared.laying.Laid.{Laid}
+use Rattle.journal.specs.declared.laying.Laid.TheVariants.{More, Last}
 
 -- ---- the entries of the block
 module _ (ws : List ℕ) (used : ℕ) (u : used ≡ min (length ws) 120) where
@@ -47,38 +48,37 @@ module _ (k : Title) (i : ℕ) (ws : List ℕ) where
       → not (is_key k.key) || ltb (30600 - 120 * i) (length ws) ≡ t
   full key left t q l h = sym (λ j. not (q j) || ltb (l j) (length ws)) ∙ h
 
-  pub no_block : right ≡ false → Denied BadJournal ≡ lays k i ws
+  pub no_block : right ≡ false → Err BadJournal ≡ lays k i ws
   unfolding lays
   no_block h = simp h
 
   module _ (ok : right ≡ true) where
-    pub not-kept : not (is_key k.key) || ltb (30600 - 120 * i) (length ws) ≡ true → Denied NotKept ≡ lays k i ws
+    pub not-kept : not (is_key k.key) || ltb (30600 - 120 * i) (length ws) ≡ true → Err NotKept ≡ lays k i ws
     unfolding lays
     not-kept h = simp (ok, h)
 
     module _ (kept : not (is_key k.key) || ltb (30600 - 120 * i) (length ws) ≡ false) where
-      pub is_last : length ws ≤ 120 → Last ≡ lays k i ws
+      pub is_last : length ws ≤ 120 → Ok Last ≡ lays k i ws
       unfolding lays
       is_last h = simp (ok, kept, le-leb (length ws) 120 h)
 
-      pub is-more : 120 < length ws → More ≡ lays k i ws
+      pub is-more : 120 < length ws → Ok More ≡ lays k i ws
       unfolding lays
       is-more h = simp (ok, kept, lt-leb (length ws) 120 h)
 
 -- ---- and back: what is laid has passed the tests
-abbrev told : BlockLaid → ℕ
-told (Denied e) = 0
-told NoRoom = 0
-told More = 1
-told Last = 2
+abbrev told : Result Laid JournalError → ℕ
+told (Err e) = 0
+told (Ok More) = 1
+told (Ok Last) = 2
 
-module _ (k : Title) (i : ℕ) (ws : List ℕ) (t : Bool) (e : lays k i ws ≡ cond t Last More) where
+module _ (k : Title) (i : ℕ) (ws : List ℕ) (t : Bool) (e : lays k i ws ≡ Ok (cond t Last More)) where
   -- each test that `lays` asks, and which answer it is
   pub laid_by : (right k i ws ≡ true) × (not (is_key k.key) || ltb (30600 - 120 * i) (length ws) ≡ false) × (leb (length ws) 120 ≡ t)
   unfolding lays
   laid_by = at (right k i ws) (not (is_key k.key) || ltb (30600 - 120 * i) (length ws)) (leb (length ws) 120) t e
     where
-      at : (a o l t : Bool) → cond a (cond o (Denied NotKept) (cond l Last More)) (Denied BadJournal) ≡ cond t Last More → (a ≡ true) × (o ≡ false) × (l ≡ t)
+      at : (a o l t : Bool) → cond a (cond o (Err NotKept) (Ok (cond l Last More))) (Err BadJournal) ≡ Ok (cond t Last More) → (a ≡ true) × (o ≡ false) × (l ≡ t)
       at true false true true e = (refl, refl, refl)
       at true false false false e = (refl, refl, refl)
       at true false true false e = absurd (let z : ◌≡◌ {A = ℕ} 2 1 = ap told e in omega arith)
@@ -91,35 +91,3 @@ module _ (k : Title) (i : ℕ) (ws : List ℕ) (t : Bool) (e : lays k i ws ≡ c
   -- the blocks from i to 254 hold what is left
   pub laid-room : length ws ≤ 30600 - 120 * i
   laid-room = ltb-false (30600 - 120 * i) (length ws) (or_neither (not (is_key k.key)) _ laid_by.1).1
-
--- ---- the room
-module _ (bytes : ℕ) (k : Title) (i : ℕ) (ws out : List ℕ) where
-  -- what is promised of the answer and of the bytes
-  abbrev Lays : BlockLaid → List ℕ → Type 0
-  Lays r after = (r ≡ lays_into bytes k i ws) × (after ≡ lay_after (lays_into bytes k i ws) k i ws out)
-
-  pub denied : (e : JournalError) → lays k i ws ≡ Denied e → Lays (Denied e) out
-  unfolding lays_into lay_room lay_after
-  denied e h = (simp h, simp h)
-
-  pub no_room_lem : lays k i ws ≡ NoRoom → Lays NoRoom out
-  unfolding lays_into lay_room lay_after
-  no_room_lem h = (simp h, simp h)
-
-  module _ (h : lays k i ws ≡ More) where
-    pub more-short : bytes < 512 → Lays NoRoom out
-    unfolding lays_into lay_room lay_after
-    more-short g = let e = lt-ltb bytes 512 g in (simp (h, e), simp (h, e))
-
-    pub more-laid : (after : List ℕ) → 512 ≤ bytes → after ≡ block_laid k i ws ++ drop 512 out → Lays More after
-    unfolding lays_into lay_room lay_after
-    more-laid after g l = let e = le-ltb bytes 512 g in (simp (h, e), l ∙ simp (h, e))
-
-  module _ (h : lays k i ws ≡ Last) where
-    pub last-short : bytes < 512 → Lays NoRoom out
-    unfolding lays_into lay_room lay_after
-    last-short g = let e = lt-ltb bytes 512 g in (simp (h, e), simp (h, e))
-
-    pub last-laid : (after : List ℕ) → 512 ≤ bytes → after ≡ block_laid k i ws ++ drop 512 out → Lays Last after
-    unfolding lays_into lay_room lay_after
-    last-laid after g l = let e = le-ltb bytes 512 g in (simp (h, e), l ∙ simp (h, e))

@@ -13,7 +13,7 @@ use Rattle.commons.proofs.Bools.{and_both}
 use Rattle.commons.proofs.Tests.{test_at}
 use Rattle.script.specs.declared.line.Words.{Words}
 use Rattle.journal.specs.declared.hand.HandHead.{HandHead}
-use Rattle.journal.specs.declared.hand.HandRead.TheVariants.{Hand}
+use Rattle.std.specs.Prelude.{Ok}
 use Rattle.journal.specs.declared.reading.LineRead.{LineRead}
 use Rattle.journal.specs.Entry.{is_letter, is_number, is_entry}
 use Rattle.journal.specs.Hand.{blocks_in, word_in, words_from, word_given, word_count, words_of, hand_tests, hand_ok, reads}
@@ -97,7 +97,7 @@ pub record At (b : List ℕ) (total i : ℕ) : Type 0 where
 abbrev pub left : List ℕ → ℕ → ℕ → List Words
 left b total i = played (rest_from b i total)
 
-module _ (b : List ℕ) (h : HandHead) (e : reads b ≡ Hand h) where
+module _ (b : List ℕ) (h : HandHead) (e : reads b ≡ Ok h) where
   head_so : (hand_ok b ≡ true) × (word_count b ≡ h.entries)
   head_so = let q = read_ok b h e in (q.0, ap (λ (k : HandHead). k.entries) q.1)
 

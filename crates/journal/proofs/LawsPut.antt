@@ -216,9 +216,6 @@ module _ (l ws : List ℕ) where
   unfolding words_put
   put_next i m o e f = rw (add-one i) (f ∙ rw e)
 
-  pub put-end : (i n : ℕ) (o : List ℕ) → o ≡ words_put i l ws → i ≤ n → n ≤ i → o ≡ words_put n l ws
-  put-end i n o e h g = let j : i ≡ n = omega arith in e ∙ rw j
-
 pub bit-small : (t : Bool) → bit t < 256
 bit-small true = omega arith
 bit-small false = omega arith

@@ -13,7 +13,7 @@ use Rattle.journal.specs.Lines.{spells}
 use Rattle.journal.specs.Hand.{piece, block_says, block_fits, blocks_in, blocks_fit, word_count, words_from, hand_ok, reads}
 use Rattle.journal.specs.declared.block.Title.{Title}
 use Rattle.refusals.specs.declared.JournalError.TheVariants.{BadJournal}
-use Rattle.journal.specs.declared.hand.HandRead.TheVariants.{Refused, Hand}
+use Rattle.std.specs.Prelude.{Ok, Err}
 use Rattle.commons.proofs.Folds.{all-at}
 use Rattle.commons.proofs.Bools.{and_both}
 use Rattle.journal.proofs.LawsBlock.{ok-some, ok-used}
@@ -42,17 +42,17 @@ module _ (b : List ℕ) where
       let q = piece_byte b (n - 1) 10 (omega arith) in
       (rw q at (ok-some p ok), rw q at (ok-used p ok))
 
-  pub no_blocks : (length b % 512 ≡ 0 → ⊥) → Refused BadJournal ≡ reads b
+  pub no_blocks : (length b % 512 ≡ 0 → ⊥) → Err BadJournal ≡ reads b
   unfolding reads hand_ok
   no_blocks e = simp (ne_eqb (length b % 512) 0 e)
 
   module _ (whole : length b % 512 ≡ 0) where
-    pub nothing : blocks_in b < 1 → Refused BadJournal ≡ reads b
+    pub nothing : blocks_in b < 1 → Err BadJournal ≡ reads b
     unfolding reads hand_ok
     nothing h = simp (eq-eqb (length b % 512) 0 whole, lt-leb 1 (blocks_in b) h)
 
     module _ (some : 1 ≤ blocks_in b) where
-      pub bad-block : blocks_fit b ≡ false → Refused BadJournal ≡ reads b
+      pub bad-block : blocks_fit b ≡ false → Err BadJournal ≡ reads b
       unfolding reads hand_ok
       bad-block e = simp (eq-eqb (length b % 512) 0 whole, le-leb 1 (blocks_in b) some, e)
 
@@ -61,10 +61,10 @@ module _ (b : List ℕ) where
         unfolding word_count
         count = t
 
-        pub bad-lines : spells (words_from b 0 total) ≡ false → Refused BadJournal ≡ reads b
+        pub bad-lines : spells (words_from b 0 total) ≡ false → Err BadJournal ≡ reads b
         unfolding reads hand_ok
         bad-lines e = simp (eq-eqb (length b % 512) 0 whole, le-leb 1 (blocks_in b) some, fit, rw count at e)
 
-        pub a_hand : spells (words_from b 0 total) ≡ true → (k : Title) → k ≡ title_at b → Hand (record { title = k; blocks = blocks_in b; entries = total }) ≡ reads b
+        pub a_hand : spells (words_from b 0 total) ≡ true → (k : Title) → k ≡ title_at b → Ok (record { title = k; blocks = blocks_in b; entries = total }) ≡ reads b
         unfolding reads hand_ok
         a_hand e k q = rw (q, count) (simp (eq-eqb (length b % 512) 0 whole, le-leb 1 (blocks_in b) some, fit, rw count at e))

@@ -11,8 +11,9 @@ use lib.ListN.{length, get_or, set, take, drop, length-append, length-drop}
 use lib.Seq.{set_at, set_split, drop-cons, drop-drop, take-suc, take-length, length-take-le, append_snoc}
 use Rattle.journal.specs.Lines.{Line, count_ok, line_words, tape_of}
 use Rattle.journal.specs.Tape.{line_given, line_ok, no_room, put_line, tape_after, numbers_put}
-use Rattle.journal.specs.declared.tape.Put.{Put}
-use Rattle.journal.specs.declared.tape.Put.TheVariants.{Denied, NoRoom, Laid}
+use Rattle.std.specs.Prelude.{Result, Ok, Err}
+use Rattle.journal.specs.declared.laying.NotLaid.{NotLaid}
+use Rattle.journal.specs.declared.laying.NotLaid.TheVariants.{Denied, NoRoom}
 use Rattle.journal.proofs.LawsSpelt.{number_words}
 
 module _ (l : List ℕ) (at : ℕ) (ns : List ℕ) where
@@ -23,9 +24,6 @@ module _ (l : List ℕ) (at : ℕ) (ns : List ℕ) where
   pub put_next : (i v : ℕ) (o : List ℕ) → o ≡ numbers_put i l at ns → v ≡ get_or ns i 0 * 65536 → set o (at + i) v ≡ numbers_put (i + 1) l at ns
   unfolding numbers_put
   put_next i v o e f = rw (add-one i) (rw (e, f))
-
-  pub put-end : (i n : ℕ) (o : List ℕ) → o ≡ numbers_put i l at ns → i ≤ n → n ≤ i → o ≡ numbers_put n l at ns
-  put-end i n o e h g = let j : i ≡ n = omega arith in e ∙ rw j
 
 words_append : (xs ys : List ℕ) → number_words (xs ++ ys) ≡ number_words xs ++ number_words ys
 words_append [] ys = refl
@@ -53,23 +51,23 @@ numbers_are p q ns at (suc n) e h g =
 
 module _ (t : List ℕ) (at l : ℕ) (ns : List ℕ) where
   -- what is promised of the answer and of the tape
-  abbrev Puts : Put → List ℕ → Type 0
+  abbrev Puts : Result ℕ NotLaid → List ℕ → Type 0
   Puts r after = (r ≡ put_line (length t) at l ns) × (after ≡ tape_after at l ns t)
 
-  pub no_line : (k : Bool) → k ≡ count_ok l (length ns) (length ns) → k ≡ false → Puts (Denied BadJournal) t
+  pub no_line : (k : Bool) → k ≡ count_ok l (length ns) (length ns) → k ≡ false → Puts (Err (Denied BadJournal)) t
   unfolding put_line tape_after line_ok
   no_line k q e = let f = sym q ∙ e in (simp f, simp f)
 
   module _ (k : Bool) (q : k ≡ count_ok l (length ns) (length ns)) (ok : k ≡ true) where
-    full : no_room (length t) at (length ns) ≡ true → Puts NoRoom t
+    full : no_room (length t) at (length ns) ≡ true → Puts (Err NoRoom) t
     unfolding put_line tape_after line_ok
     full e = let f = sym q ∙ ok in (simp (f, e), simp (f, e))
 
-    pub past : length t < at → Puts NoRoom t
+    pub past : length t < at → Puts (Err NoRoom) t
     unfolding no_room
     past h = full (simp (lt-ltb (length t) at h))
 
-    pub short : at ≤ length t → length t - at ≤ length ns → Puts NoRoom t
+    pub short : at ≤ length t → length t - at ≤ length ns → Puts (Err NoRoom) t
     unfolding no_room
     short m h = full (simp (le-ltb (length t) at m, le-leb (length t - at) (length ns) h))
 
@@ -93,7 +91,7 @@ module _ (t : List ℕ) (at l : ℕ) (ns : List ℕ) where
         ∙ sym (append_assoc (take at t) (line_words (line_given l ns)) (drop (at + 1 + length ns) t)))
 
     pub laid : (after : List ℕ) → at ≤ length t → length ns < length t - at
-        → after ≡ numbers_put (length ns) (set t at l) (at + 1) ns → Puts (Laid (at + 1 + length ns)) after
+        → after ≡ numbers_put (length ns) (set t at l) (at + 1) ns → Puts (Ok (at + 1 + length ns)) after
     unfolding put_line tape_after line_ok
     laid after m h e = let f = sym q ∙ ok in let g = has_room m h in (simp (f, g), e ∙ stands m h ∙ simp (f, g))
 

@@ -15,7 +15,7 @@ use Rattle.journal.specs.Block.{is_edition, bit, title_at, entry_at}
 use Rattle.journal.specs.Lines.{allowed, name_after, count_after, stacks_after, spelt, spells}
 use Rattle.journal.specs.Hand.{block_count, piece, block_at, hand_bytes, same_title, block_says, block_fits, blocks_in, blocks_fit, word_in, word_count, words_from, words_of, hand_ok, reads}
 use Rattle.journal.specs.declared.block.Title.{Title}
-use Rattle.journal.specs.declared.hand.HandRead.TheVariants.{Hand}
+use Rattle.std.specs.Prelude.{Ok}
 use Rattle.commons.proofs.Order.{lt_or_le}
 use Rattle.commons.proofs.Folds.{all_hold}
 use Rattle.commons.proofs.Bools.{and_both}
@@ -232,6 +232,6 @@ module _ (k : Title) (ws : List ℕ) (t : Kept k ws) where
       let s : 1 ≤ n = omega (arith, some) in
       rw (eq-eqb (length b % 512) 0 w, blocks_are, le-leb 1 n s, all_fit, words_are, t.lines)
 
-  pub reads-hand : reads b ≡ Hand (record { title = k; blocks = n; entries = length ws })
+  pub reads-hand : reads b ≡ Ok (record { title = k; blocks = n; entries = length ws })
   unfolding reads
   reads-hand = rw (hand-ok, title-is, blocks_are, count-is)

@@ -1,21 +1,20 @@
 -- Laws of a hand that is written. Assumes nothing.
-use Prim.Native.Nat.{ℕ, zero, suc, ◌+◌, ◌*◌, ◌-◌, ◌≤◌, ◌<◌}
+use Prim.Native.Nat.{ℕ, zero, suc, ◌+◌, ◌*◌, ◌-◌, ◌≤◌}
 use native.Mathlib.Omega.{arith}
-use mathlib.Core.Path.{◌≡◌, refl, ◌∙◌}
-use mathlib.Core.Bool.{Bool, true, false, not, ◌&&◌, ◌||◌}
-use mathlib.Core.Logic.{⊎_elim, ◌⊎◌, inl}
-use mathlib.Core.List.{List, [], ◌∷◌, ◌++◌}
-use borrow.Author.Tests.{lt-ltb, le-ltb, ltb-false}
+use mathlib.Core.Path.{◌≡◌, refl}
+use mathlib.Core.Bool.{Bool, true, false, cond, not, ◌&&◌, ◌||◌}
+use mathlib.Core.Logic.{◌⊎◌}
+use mathlib.Core.List.{List, [], ◌∷◌}
+use borrow.Author.Tests.{ltb-false}
 use lib.Dec.{eqb, ltb}
 use lib.ListN.{length, take, drop}
 use Rattle.journal.specs.Block.{is_edition, bit, block_of}
 use Rattle.keys.specs.Keys.{is_key}
 use Rattle.journal.specs.Lines.{spells}
-use Rattle.journal.specs.Hand.{block_count, piece, joined, block_at, hand_bytes, writes, room, writes_into, bytes_after}
+use Rattle.journal.specs.Hand.{block_count, piece, block_at, writes}
 use Rattle.journal.specs.declared.block.Title.{Title}
 use Rattle.refusals.specs.declared.JournalError.TheVariants.{BadJournal, NotKept}
-use Rattle.journal.specs.declared.hand.HandWritten.{HandWritten}
-use Rattle.journal.specs.declared.hand.HandWritten.TheVariants.{Denied, NoRoom, Blocks}
+use Rattle.std.specs.Prelude.{Ok, Err}
 use Rattle.journal.proofs.LawsBack.{block-long}
 use Rattle.journal.proofs.LawsHand.{same-piece}
 
@@ -34,32 +33,14 @@ pub at_block : (k : Title) (ws : List ℕ) (n i end : ℕ) → (120 * i ≤ end)
 unfolding block_at
 at_block k ws n i end h cut = rw (same-piece ws (120 * i) end i refl h.0 h.1 h.2 cut)
 
-module _ (bytes : ℕ) (k : Title) (ws out : List ℕ) where
-  -- what the writer promises of its answer and of the bytes
-  abbrev Writes : HandWritten → List ℕ → Type 0
-  Writes r after = (r ≡ writes_into bytes k ws) × (after ≡ bytes_after (writes_into bytes k ws) k ws out)
-
-  pub no_lines : is_edition k.edition && spells ws ≡ false → Writes (Denied BadJournal) out
-  unfolding writes_into writes room bytes_after
-  no_lines e = (simp e, simp e)
-
-  module _ (lines : is_edition k.edition && spells ws ≡ true) where
-    pub not-kept : not (is_key k.key) || ltb 30600 (length ws) ≡ true → Writes (Denied NotKept) out
-    unfolding writes_into writes room bytes_after
-    not-kept e = (simp (lines, e), simp (lines, e))
-
-    module _ (kept : not (is_key k.key) || ltb 30600 (length ws) ≡ false) where
-      pub no_room_lem : bytes < 512 * block_count (length ws) → Writes (NoRoom (block_count (length ws))) out
-      unfolding writes_into writes room bytes_after
-      no_room_lem e = (simp (lines, kept, lt-ltb bytes (512 * block_count (length ws)) e), simp (lines, kept, lt-ltb bytes (512 * block_count (length ws)) e))
-
-      pub laid : (after : List ℕ) → 512 * block_count (length ws) ≤ bytes → after ≡ joined (block_count (length ws)) (block_at k ws (block_count (length ws))) ++ drop (512 * block_count (length ws)) out → Writes (Blocks (block_count (length ws))) after
-      unfolding writes_into writes room bytes_after hand_bytes
-      laid after h e = (simp (lines, kept, le-ltb bytes (512 * block_count (length ws)) h), e ∙ simp (lines, kept, le-ltb bytes (512 * block_count (length ws)) h))
-
-      pub most-words : length ws ≤ 30600
-      most-words = ⊎_elim (λ l. l) (λ l. l) (at (not (is_key k.key)) kept)
-        where
-          at : (t : Bool) → t || ltb 30600 (length ws) ≡ false → (length ws ≤ 30600) ⊎ (length ws ≤ 30600)
-          at true e = absurd (let z : ◌≡◌ {A = ℕ} 0 1 = cc in omega arith)
-          at false e = inl (ltb-false 30600 (length ws) e)
+-- what the writer takes is as long as this, and needs so many blocks
+pub written : (k : Title) (ws : List ℕ) (n : ℕ) → writes k ws ≡ Ok n → (n ≡ block_count (length ws)) × (length ws ≤ 30600)
+unfolding writes
+written k ws n = at (is_edition k.edition && spells ws) (not (is_key k.key)) (ltb 30600 (length ws)) refl
+  where
+    at : (a k l : Bool) → ltb 30600 (length ws) ≡ l → cond a (cond (k || l) (Err NotKept) (Ok (block_count (length ws)))) (Err BadJournal) ≡ Ok n
+        → (n ≡ block_count (length ws)) × (length ws ≤ 30600)
+    at true false false q e = (cc, ltb-false 30600 (length ws) q)
+    at true false true q e = absurd (let z : ◌≡◌ {A = ℕ} 0 1 = cc in omega arith)
+    at true true l q e = absurd (let z : ◌≡◌ {A = ℕ} 0 1 = cc in omega arith)
+    at false k l q e = absurd (let z : ◌≡◌ {A = ℕ} 0 1 = cc in omega arith)

@@ -1,3 +1,4 @@
+pub mod LawsLists
 pub mod LawsCheck
 pub mod LawsPut
 pub mod LawsBlock

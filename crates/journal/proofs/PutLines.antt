@@ -19,9 +19,8 @@ use Rattle.journal.specs.Hand.{block_count, hand_bytes, writes, words_of, reads}
 use Rattle.journal.specs.Reading.{as_played}
 use Rattle.journal.specs.Tape.{line_given, line_ok, no_room, put_line, tape_after}
 use Rattle.journal.specs.declared.block.Title.{Title}
-use Rattle.journal.specs.declared.hand.HandRead.TheVariants.{Hand}
-use Rattle.journal.specs.declared.hand.HandWritten.TheVariants.{Denied, Blocks}
-use Rattle.journal.specs.declared.tape.Put.TheVariants.{Denied as Refused, NoRoom, Laid}
+use Rattle.std.specs.Prelude.{Ok, Err}
+use Rattle.journal.specs.declared.laying.NotLaid.TheVariants.{Denied, NoRoom}
 use Rattle.journal.proofs.LawsSpelt.{Sized, AllSized, letter-of, letter_in, lines_spell, sized-back}
 use Rattle.journal.proofs.LawsTape.{one_more}
 use Rattle.journal.proofs.Hands.{KeyFits, kept-writes, round_trip}
@@ -29,12 +28,12 @@ use Rattle.journal.proofs.Refusing.{lines-bad, lines-bad-only}
 use Rattle.journal.proofs.GivenLines.{Given, given-all, given-hand}
 
 -- ---- one line
-module _ (t : List ℕ) (at l : ℕ) (ns : List ℕ) (used : ℕ) (e : put_line (length t) at l ns ≡ Laid used) where
+module _ (t : List ℕ) (at l : ℕ) (ns : List ℕ) (used : ℕ) (e : put_line (length t) at l ns ≡ Ok used) where
   put_so : (line_ok l ns ≡ true) × (no_room (length t) at (length ns) ≡ false) × (used ≡ at + 1 + length ns)
   unfolding put_line
   put_so = by (line_ok l ns) (no_room (length t) at (length ns)) refl refl e
     where
-      by : (k r : Bool) → line_ok l ns ≡ k → no_room (length t) at (length ns) ≡ r → cond k (cond r NoRoom (Laid (at + 1 + length ns))) (Refused BadJournal) ≡ Laid used
+      by : (k r : Bool) → line_ok l ns ≡ k → no_room (length t) at (length ns) ≡ r → cond k (cond r (Err NoRoom) (Ok (at + 1 + length ns))) (Err (Denied BadJournal)) ≡ Ok used
           → (line_ok l ns ≡ true) × (no_room (length t) at (length ns) ≡ false) × (used ≡ at + 1 + length ns)
       by true false p q e = (p, q, cc)
       by true true p q e = absurd (let z : ◌≡◌ {A = ℕ} 0 1 = cc in omega arith)
@@ -68,11 +67,11 @@ module _ (t : List ℕ) (at l : ℕ) (ns : List ℕ) (used : ℕ) (e : put_line 
   put-sized s = let i = letter_in l (letter-of l (length ns) (length ns) put_so.0).0 in (omega arith, omega arith, s)
 
 -- where no line is laid the tape is as it was
-pub not-put : (t : List ℕ) (at l : ℕ) (ns : List ℕ) → ((used : ℕ) → put_line (length t) at l ns ≡ Laid used → ⊥) → tape_after at l ns t ≡ t
+pub not-put : (t : List ℕ) (at l : ℕ) (ns : List ℕ) → ((used : ℕ) → put_line (length t) at l ns ≡ Ok used → ⊥) → tape_after at l ns t ≡ t
 unfolding put_line tape_after
 not-put t at l ns n = by (line_ok l ns) (no_room (length t) at (length ns)) n
   where
-    by : (k r : Bool) → ((used : ℕ) → cond k (cond r NoRoom (Laid (at + 1 + length ns))) (Refused BadJournal) ≡ Laid used → ⊥)
+    by : (k r : Bool) → ((used : ℕ) → cond k (cond r (Err NoRoom) (Ok (at + 1 + length ns))) (Err (Denied BadJournal)) ≡ Ok used → ⊥)
         → cond (k && not r) (take at t ++ line_words (line_given l ns) ++ drop (at + 1 + length ns) t) t ≡ t
     by true false n = absurd (n (at + 1 + length ns) refl)
     by true true n = refl
@@ -81,7 +80,7 @@ not-put t at l ns n = by (line_ok l ns) (no_room (length t) at (length ns)) n
 -- ---- line by line: the entries used, the tape, and the lines that were put, each of numbers that have 16 bits
 pub data Filled : ℕ → List ℕ → List Line → Type 0 where
   fresh : (t : List ℕ) → Filled 0 t []
-  put : {at : ℕ} {t : List ℕ} {ls : List Line} (l : ℕ) (ns : List ℕ) (used : ℕ) → all_small ns ≡ true → put_line (length t) at l ns ≡ Laid used → Filled at t ls
+  put : {at : ℕ} {t : List ℕ} {ls : List Line} (l : ℕ) (ns : List ℕ) (used : ℕ) → all_small ns ≡ true → put_line (length t) at l ns ≡ Ok used → Filled at t ls
       → Filled used (tape_after at l ns t) (ls ++ (line_given l ns ∷ []))
 
 sized-more : (ls : List Line) (m : Line) → AllSized ls → Sized m → AllSized (ls ++ (m ∷ []))
@@ -103,23 +102,23 @@ filled-sized (put {at = at} {t = t} {ls = ls} l ns used s e f) = sized-more ls (
 
 -- ---- written and read
 module _ {at : ℕ} {t : List ℕ} {ls : List Line} (f : Filled at t ls) (k : Title) where
-  pub filled-bad : lines_ok ls ≡ false → writes k (take at t) ≡ Denied BadJournal
+  pub filled-bad : lines_ok ls ≡ false → writes k (take at t) ≡ Err BadJournal
   filled-bad e = ap (writes k) (filled-tape f) ∙ lines-bad k ls (filled-sized f) e
 
-  pub filled-bad-only : is_edition k.edition ≡ true → writes k (take at t) ≡ Denied BadJournal → lines_ok ls ≡ false
+  pub filled-bad-only : is_edition k.edition ≡ true → writes k (take at t) ≡ Err BadJournal → lines_ok ls ≡ false
   filled-bad-only v e = lines-bad-only k ls (filled-sized f) v (ap (writes k) (sym (filled-tape f)) ∙ e)
 
-  pub filled-writes : KeyFits k → (k.key.year ≡ 0 → ⊥) → is_edition k.edition ≡ true → lines_ok ls ≡ true → at ≤ 30600 → writes k (take at t) ≡ Blocks (block_count at)
+  pub filled-writes : KeyFits k → (k.key.year ≡ 0 → ⊥) → is_edition k.edition ≡ true → lines_ok ls ≡ true → at ≤ 30600 → writes k (take at t) ≡ Ok (block_count at)
   filled-writes b y v e m =
       let s : spells (take at t) ≡ true = ap spells (filled-tape f) ∙ lines_spell ls e in
       kept-writes k (take at t) (record { code = b.code; year = b.year; keyed = y; hand = b.hand; edition = v; lines = s; most = omega (arith, filled-long f) })
-      ∙ ap (λ (n : ℕ). Blocks (block_count n)) (filled-long f)
+      ∙ ap (λ (n : ℕ). Ok (block_count n)) (filled-long f)
 
-  module _ (n : ℕ) (b : KeyFits k) (e : writes k (take at t) ≡ Blocks n) where
-    pub filled_trip : (reads (hand_bytes k (take at t)) ≡ Hand (record { title = k; blocks = n; entries = at })) × (lines_of (words_of (hand_bytes k (take at t))) ≡ ls)
+  module _ (n : ℕ) (b : KeyFits k) (e : writes k (take at t) ≡ Ok n) where
+    pub filled_trip : (reads (hand_bytes k (take at t)) ≡ Ok (record { title = k; blocks = n; entries = at })) × (lines_of (words_of (hand_bytes k (take at t))) ≡ ls)
     filled_trip =
         let r = round_trip k (take at t) n b e in
-        (r.0 ∙ (λ i. Hand (record { title = k; blocks = n; entries = filled-long f i })), ap lines_of (r.1 ∙ filled-tape f) ∙ sized-back ls (filled-sized f))
+        (r.0 ∙ (λ i. Ok (record { title = k; blocks = n; entries = filled-long f i })), ap lines_of (r.1 ∙ filled-tape f) ∙ sized-back ls (filled-sized f))
 
     -- the lines that were put are given, and no others
     pub filled-given : Given (hand_bytes k (take at t)) 0 (map as_played ls)

@@ -6,6 +6,8 @@ use mathlib.Core.List.{List, [], ◌∷◌, ◌++◌, map}
 use lib.Dec.{eqb}
 use lib.ListN.{length, set, take, drop, replicate}
 use Rattle.commons.specs.Folds.{all_to}
+use Rattle.std.specs.Prelude.{Result, Ok, Err}
+use Rattle.refusals.specs.declared.JournalError.{JournalError}
 use Rattle.refusals.specs.Number.{journal_number}
 use Rattle.keys.specs.Keys.{key_of}
 use Rattle.journal.specs.Check.{sum_of, run_of, sum_check, run_check}
@@ -18,15 +20,12 @@ use Rattle.journal.specs.Lay.{all_entries, lays}
 use Rattle.journal.specs.Reading.{count_given, given_from, line_from, line_read}
 use Rattle.script.specs.Words.{firsts}
 use Rattle.journal.specs.declared.block.Title.{Title}
-use Rattle.journal.specs.declared.laying.BlockLaid.{BlockLaid}
-use Rattle.journal.specs.declared.laying.BlockLaid.TheVariants.{Denied as Unlaid, NoRoom as NoBlock, More, Last}
-use Rattle.journal.specs.declared.tape.Put.{Put}
-use Rattle.journal.specs.declared.tape.Put.TheVariants.{Denied as NoLine, NoRoom as NoPlace, Laid}
+use Rattle.journal.specs.declared.laying.Laid.{Laid}
+use Rattle.journal.specs.declared.laying.Laid.TheVariants.{More, Last}
+use Rattle.journal.specs.declared.laying.NotLaid.{NotLaid}
+use Rattle.journal.specs.declared.laying.NotLaid.TheVariants.{Denied, NoRoom}
 use Rattle.journal.specs.declared.reading.LineRead.{LineRead}
-use Rattle.journal.specs.declared.hand.HandRead.{HandRead}
-use Rattle.journal.specs.declared.hand.HandRead.TheVariants.{Refused, Hand}
-use Rattle.journal.specs.declared.hand.HandWritten.{HandWritten}
-use Rattle.journal.specs.declared.hand.HandWritten.TheVariants.{Denied, NoRoom, Blocks}
+use Rattle.journal.specs.declared.hand.HandHead.{HandHead}
 
 abbrev title : ℕ → ℕ → Title
 title year edition = record { key = key_of 258 year 70000; edition = edition }
@@ -40,10 +39,9 @@ abbrev long : ℕ → List ℕ
 long n = table ++ replicate n 110
 
 -- ---- what the writer answers: the refusal's number, or 1,000 and the blocks
-abbrev told : HandWritten → ℕ
-told (Denied e) = journal_number e
-told (NoRoom n) = 0
-told (Blocks n) = 1000 + n
+abbrev told : Result ℕ JournalError → ℕ
+told (Err e) = journal_number e
+told (Ok n) = 1000 + n
 
 pub record Written : Type 0 where
   pub year : ℕ
@@ -100,9 +98,9 @@ unfolding writes spells spelt allowed name_after count_after stacks_after stacks
 right-writings = refl
 
 -- ---- what the reader refuses with 27. The check is looked at last, so that these are computed without it
-abbrev read : HandRead → ℕ
-read (Refused e) = journal_number e
-read (Hand h) = 1000 + h.entries
+abbrev read : Result HandHead JournalError → ℕ
+read (Err e) = journal_number e
+read (Ok h) = 1000 + h.entries
 
 -- a hand of one block, 7 entries; one of two blocks, 120 and 1 entries
 abbrev one : List ℕ
@@ -233,11 +231,10 @@ unfolding tape_of
 tape = refl
 
 -- ---- what is answered of a block that is laid alone: the refusal's number, 1,001 where another follows, 1,002 for the last
-abbrev answered : BlockLaid → ℕ
-answered (Unlaid e) = journal_number e
-answered NoBlock = 0
-answered More = 1001
-answered Last = 1002
+abbrev answered : Result Laid JournalError → ℕ
+answered (Err e) = journal_number e
+answered (Ok More) = 1001
+answered (Ok Last) = 1002
 
 pub record Laying : Type 0 where
   pub year : ℕ
@@ -278,10 +275,10 @@ unfolding lays all_entries all_to is_entry is_number is_letter
 right-layings = refl
 
 -- ---- what is answered of a line laid behind 7 entries: 27, 0 for too little room, or 1,000 and the entries then
-abbrev put : Put → ℕ
-put (NoLine e) = journal_number e
-put NoPlace = 0
-put (Laid n) = 1000 + n
+abbrev put : Result ℕ NotLaid → ℕ
+put (Err (Denied e)) = journal_number e
+put (Err NoRoom) = 0
+put (Ok n) = 1000 + n
 
 pub record Placing : Type 0 where
   pub places : ℕ

@@ -1,5 +1,5 @@
 -- R18.6 to R18.8, R18.10: the blocks of a hand. Definitions only.
-use Rattle.std.specs.Prelude.{ℕ, zero, suc, ◌+◌, ◌*◌, ◌-◌, ◌/◌, ◌%◌, Bool, cond, not, ◌&&◌, ◌||◌, List, [], ◌∷◌, ◌++◌, eqb, leb, ltb, length, take, drop}
+use Rattle.std.specs.Prelude.{ℕ, zero, suc, ◌+◌, ◌*◌, ◌-◌, ◌/◌, ◌%◌, Bool, cond, not, ◌&&◌, ◌||◌, List, [], ◌∷◌, ◌++◌, Result, Ok, Err, eqb, leb, ltb, length, take, drop}
 use Rattle.commons.specs.Tests.{all_of}
 use Rattle.keys.specs.Keys.{is_key, is_same}
 use Rattle.commons.specs.Folds.{all_to}
@@ -8,11 +8,11 @@ use Rattle.journal.specs.Entry.{four_at}
 use Rattle.journal.specs.Block.{is_edition, bit, block_of, block_ok, title_at}
 use Rattle.journal.specs.Lines.{spells}
 use Rattle.journal.specs.declared.block.Title.{Title}
+use Rattle.refusals.specs.declared.JournalError.{JournalError}
 use Rattle.refusals.specs.declared.JournalError.TheVariants.{BadJournal, NotKept}
-use Rattle.journal.specs.declared.hand.HandRead.{HandRead}
-use Rattle.journal.specs.declared.hand.HandRead.TheVariants.{Refused, Hand}
-use Rattle.journal.specs.declared.hand.HandWritten.{HandWritten}
-use Rattle.journal.specs.declared.hand.HandWritten.TheVariants.{Denied, NoRoom, Blocks}
+use Rattle.journal.specs.declared.hand.HandHead.{HandHead}
+use Rattle.journal.specs.declared.hand.NotWritten.{NotWritten}
+use Rattle.journal.specs.declared.hand.NotWritten.TheVariants.{Denied, NoRoom}
 
 -- ---- the hand that is written
 -- the blocks that so many entries fill: all but the last are filled
@@ -35,23 +35,21 @@ unfoldable pub hand_bytes : Title → List ℕ → List ℕ
 hand_bytes k ws = joined (block_count (length ws)) (block_at k ws (block_count (length ws)))
 
 -- 27 for entries that are no hand, then 28 for no key or above 255 blocks
-unfoldable pub writes : Title → List ℕ → HandWritten
-writes k ws = cond (is_edition k.edition && spells ws) (cond (not (is_key k.key) || ltb 30600 (length ws)) (Denied NotKept) (Blocks (block_count (length ws)))) (Denied BadJournal)
+unfoldable pub writes : Title → List ℕ → Result ℕ JournalError
+writes k ws = cond (is_edition k.edition && spells ws) (cond (not (is_key k.key) || ltb 30600 (length ws)) (Err NotKept) (Ok (block_count (length ws)))) (Err BadJournal)
 
 -- the same into bytes of which there are so many
-unfoldable pub room : ℕ → HandWritten → HandWritten
-room bytes (Denied e) = Denied e
-room bytes (NoRoom n) = NoRoom n
-room bytes (Blocks n) = cond (ltb bytes (512 * n)) (NoRoom n) (Blocks n)
+unfoldable pub room : ℕ → Result ℕ JournalError → Result ℕ NotWritten
+room bytes (Err e) = Err (Denied e)
+room bytes (Ok n) = cond (ltb bytes (512 * n)) (Err (NoRoom n)) (Ok n)
 
-unfoldable pub writes_into : ℕ → Title → List ℕ → HandWritten
+unfoldable pub writes_into : ℕ → Title → List ℕ → Result ℕ NotWritten
 writes_into bytes k ws = room bytes (writes k ws)
 
 -- a hand that is written stands first, and what stood behind it is kept; where none is written, all is
-unfoldable pub bytes_after : HandWritten → Title → List ℕ → List ℕ → List ℕ
-bytes_after (Denied e) k ws out = out
-bytes_after (NoRoom n) k ws out = out
-bytes_after (Blocks n) k ws out = hand_bytes k ws ++ drop (512 * n) out
+unfoldable pub bytes_after : Result ℕ NotWritten → Title → List ℕ → List ℕ → List ℕ
+bytes_after (Err e) k ws out = out
+bytes_after (Ok n) k ws out = hand_bytes k ws ++ drop (512 * n) out
 
 -- ---- the hand that is read
 unfoldable pub same_title : Title → Title → Bool
@@ -95,5 +93,5 @@ hand_tests b = eqb (length b % 512) 0 ∷ leb 1 (blocks_in b) ∷ blocks_fit b �
 unfoldable pub hand_ok : List ℕ → Bool
 hand_ok b = all_of (hand_tests b)
 
-unfoldable pub reads : List ℕ → HandRead
-reads b = cond (hand_ok b) (Hand (record { title = title_at b; blocks = blocks_in b; entries = word_count b })) (Refused BadJournal)
+unfoldable pub reads : List ℕ → Result HandHead JournalError
+reads b = cond (hand_ok b) (Ok (record { title = title_at b; blocks = blocks_in b; entries = word_count b })) (Err BadJournal)

@@ -1,9 +1,9 @@
 -- R18.11: a line laid behind the entries of a hand. Definitions only.
-use Rattle.std.specs.Prelude.{ℕ, zero, suc, ◌+◌, ◌*◌, ◌-◌, Bool, cond, not, ◌&&◌, ◌||◌, List, ◌++◌, ltb, leb, length, get_or, set, take, drop}
+use Rattle.std.specs.Prelude.{ℕ, zero, suc, ◌+◌, ◌*◌, ◌-◌, Bool, cond, not, ◌&&◌, ◌||◌, List, ◌++◌, Result, Ok, Err, ltb, leb, length, get_or, set, take, drop}
 use Rattle.refusals.specs.declared.JournalError.TheVariants.{BadJournal}
 use Rattle.journal.specs.Lines.{Line, count_ok, line_words}
-use Rattle.journal.specs.declared.tape.Put.{Put}
-use Rattle.journal.specs.declared.tape.Put.TheVariants.{Denied, NoRoom, Laid}
+use Rattle.journal.specs.declared.laying.NotLaid.{NotLaid}
+use Rattle.journal.specs.declared.laying.NotLaid.TheVariants.{Denied, NoRoom}
 
 abbrev pub line_given : ℕ → List ℕ → Line
 line_given l ns = record { name = l; numbers = ns }
@@ -16,8 +16,8 @@ line_ok l ns = count_ok l (length ns) (length ns)
 unfoldable pub no_room : ℕ → ℕ → ℕ → Bool
 no_room long at count = ltb long at || leb (long - at) count
 
-unfoldable pub put_line : ℕ → ℕ → ℕ → List ℕ → Put
-put_line long at l ns = cond (line_ok l ns) (cond (no_room long at (length ns)) NoRoom (Laid (at + 1 + length ns))) (Denied BadJournal)
+unfoldable pub put_line : ℕ → ℕ → ℕ → List ℕ → Result ℕ NotLaid
+put_line long at l ns = cond (line_ok l ns) (cond (no_room long at (length ns)) (Err NoRoom) (Ok (at + 1 + length ns))) (Err (Denied BadJournal))
 
 -- the line stands behind the first entries, and what stood behind it is kept
 unfoldable pub tape_after : ℕ → ℕ → List ℕ → List ℕ → List ℕ

@@ -10,7 +10,7 @@ use keys::HandKey;
 use refusals::JournalError;
 
 // What all blocks of a hand say alike: its key, and the edition of the rules that it was played by.
-#[derive(Clone, Copy)]
+#[derive(Clone, Copy, PartialEq, Eq)]
 pub struct Title {
     pub key: HandKey,
     pub edition: u8,
@@ -20,8 +20,7 @@ impl Title {
     pub fn is_same(self, other: Title) -> bool
         ensures { result ≡ same_title self other }
     {
-        let key = self.key;
-        key.is_same(other.key) & (self.edition == other.edition)
+        self == other
     }
 }
 
@@ -32,13 +31,6 @@ pub struct Head {
     pub index: u8,
     pub last: bool,
     pub used: u8,
-}
-
-// A block as it is read: a refusal, or its head.
-#[derive(Clone, Copy)]
-pub enum BlockRead {
-    Refused(JournalError),
-    Block(Head),
 }
 
 // Whether an edition is known: so far there is one.
@@ -54,12 +46,8 @@ fn entries_fit(block: &[u8], used: u8) -> bool
     requires used_value { used ≡ byte block.now 10 }
     ensures { result ≡ entries_fit block.now }
 {
-    let n = used as usize;
-    let mut fit = true;
-    for i in 0..120 {
-        fit = fit & words::entry_fits(i < n, words::four_at(block, 16 + 4 * i));
-    }
-    fit
+    let n = usize::from(used);
+    (0..120).all(|i| words::entry_fits(i < n, words::four_at(block, 16 + 4 * i)))
 }
 
 // Whether bytes are a block.
@@ -101,11 +89,11 @@ fn head_of(block: &[u8]) -> Head
 }
 
 // A block's head, or 27.
-pub fn read_block(block: &[u8]) -> BlockRead
+pub fn read_block(block: &[u8]) -> Result<Head, JournalError>
     ensures { result ≡ read_of block.now }
 {
     if !is_block(block) {
-        return BlockRead::Refused(JournalError::BadJournal);
+        return Err(JournalError::BadJournal);
     }
-    BlockRead::Block(head_of(block))
+    Ok(head_of(block))
 }

@@ -7,8 +7,7 @@ use crate::block::Title;
 use crate::{sums, words};
 
 // Bytes 0 to 11.
-fn put_head(out: &mut [u8], title: Title, index: u8, last: bool, used: u8)
-    requires { length out.old ≡ 512 }
+fn put_head(out: &mut [u8; 512], title: Title, index: u8, last: bool, used: u8)
     ensures { out.new ≡ head_put out.old title index (bit last) used }
 {
     let key = title.key;
@@ -17,25 +16,23 @@ fn put_head(out: &mut [u8], title: Title, index: u8, last: bool, used: u8)
     words::put_four(
         out,
         8,
-        words::four(index, words::bit_of(last), used, title.edition),
+        words::four(index, u8::from(last), used, title.edition),
     );
 }
 
 // The entries, from byte 16 on.
-fn put_entries(out: &mut [u8], entries: &[u32])
-    requires out_len { length out.old ≡ 512 }
-    requires entries_len_bound { length entries.now ≤ 120 }
+fn put_entries(out: &mut [u8; 512], entries: &[u32])
+    requires { length entries.now ≤ 120 }
     ensures { out.new ≡ words_put (length entries.now) out.old entries.now }
 {
-    let n = entries.len();
-    for i in 0..n {
-        let w = entries[i];
-        words::put_four(out, 16 + 4 * i, w);
+    // By place and not by `chunks_exact_mut`: a proof does not know the elements that such a borrow leaves.
+    for (i, w) in entries.iter().enumerate() {
+        words::put_four(out, 16 + 4 * i, *w);
     }
 }
 
 // A block made from zeros: its head, its entries, its check.
-fn block_of(title: Title, index: u8, last: bool, entries: &[u32]) -> [u8; 512]
+pub fn block_of(title: Title, index: u8, last: bool, entries: &[u32]) -> [u8; 512]
     requires { length entries.now ≤ 120 }
     ensures { result ≡ block_of title index (bit last) entries.now }
 {
@@ -47,14 +44,4 @@ fn block_of(title: Title, index: u8, last: bool, entries: &[u32]) -> [u8; 512]
     block[510] = check.sum;
     block[511] = check.run;
     block
-}
-
-// The same, laid over the caller's 512 bytes.
-pub fn fill_block(out: &mut [u8], title: Title, index: u8, last: bool, entries: &[u32])
-    requires out_len { length out.old ≡ 512 }
-    requires entries_len_bound { length entries.now ≤ 120 }
-    ensures { out.new ≡ block_of title index (bit last) entries.now }
-{
-    let block = block_of(title, index, last, entries);
-    commons::copying::copy_u8(out, 0, &block, 0, 512);
 }

@@ -2,7 +2,8 @@
 ghost use Rattle.std.specs.Prelude.{◌≡◌, ◌++◌, ◌⊎◌, ◌+◌, ◌*◌, ◌-◌, ◌/◌, ◌%◌, ◌≤◌, ◌<◌, eqb, length, drop};
 ghost use Rattle.journal.specs.Block.{title_at};
 ghost use Rattle.journal.specs.Lines.{spells};
-ghost use Rattle.journal.specs.Hand.{block_count, joined, block_at, block_says, block_fits, blocks_in, blocks_fit, word_in, word_count, words_of, words_from, word_given, hand_ok, reads, writes_into, bytes_after};
+ghost use Rattle.journal.specs.Hand.{block_count, joined, block_at, block_says, block_fits, blocks_in, blocks_fit, word_in, word_count, words_of, words_from, word_given, hand_ok, reads, writes, writes_into, bytes_after};
+ghost use Rattle.journal.specs.declared.hand.NotWritten.TheVariants.{Denied};
 
 use crate::block::Title;
 use crate::{block, fill, heads, lines, words};
@@ -16,19 +17,19 @@ pub struct HandHead {
     pub entries: usize,
 }
 
-// A hand as it is read.
+// Why a hand is not written: a refusal, or too little room for the blocks that it needs.
 #[derive(Clone, Copy)]
-pub enum HandRead {
-    Refused(JournalError),
-    Hand(HandHead),
-}
-
-// A hand as it is written: a refusal, too little room (the blocks that it needs), or the blocks written.
-#[derive(Clone, Copy)]
-pub enum HandWritten {
+pub enum NotWritten {
     Denied(JournalError),
     NoRoom(usize),
-    Blocks(usize),
+}
+
+impl From<JournalError> for NotWritten {
+    ghost from_gives = { λ refusal e. e ≡ Denied refusal };
+
+    fn from(refusal: JournalError) -> NotWritten {
+        NotWritten::Denied(refusal)
+    }
 }
 
 // ---- the writer
@@ -51,6 +52,7 @@ fn put_blocks(out: &mut [u8], title: Title, tape: &[u32], n: usize)
     requires n_in_bounds { 512 * n ≤ length out.old }
     ensures { out.new ≡ joined n (block_at title tape.now n) ++ drop (512 * n) out.old }
 {
+    // By number and not by `chunks_exact_mut`: a proof does not know the elements that such a borrow leaves.
     for i in 0..n {
         let from = 120 * i;
         let end = part_end(from, tape.len());
@@ -58,28 +60,35 @@ fn put_blocks(out: &mut [u8], title: Title, tape: &[u32], n: usize)
         let to = at + 512;
         let index = i as u8;
         let last = i + 1 == n;
-        fill::fill_block(&mut out[at..to], title, index, last, &tape[from..end]);
+        out[at..to].copy_from_slice(&fill::block_of(title, index, last, &tape[from..end]));
     }
 }
 
-// A hand written into the caller's bytes, from the first on.
-pub fn write_hand(title: Title, tape: &[u32], out: &mut [u8]) -> HandWritten
-    ensures answer { result ≡ writes_into (length out.old) title tape.now }
-    ensures bytes { out.new ≡ bytes_after (writes_into (length out.old) title tape.now) title tape.now out.old }
+// How many blocks a hand needs, where it may be written.
+fn blocks_of(title: Title, tape: &[u32]) -> Result<usize, JournalError>
+    ensures { result ≡ writes title tape.now }
 {
     let key = title.key;
     if !(block::is_edition(title.edition) & lines::is_spelt(tape)) {
-        return HandWritten::Denied(JournalError::BadJournal);
+        Err(JournalError::BadJournal)
+    } else if !key.is_key() | (30600 < tape.len()) {
+        Err(JournalError::NotKept)
+    } else {
+        Ok((tape.len() + 119) / 120)
     }
-    if !key.is_key() | (30600 < tape.len()) {
-        return HandWritten::Denied(JournalError::NotKept);
-    }
-    let n = (tape.len() + 119) / 120;
+}
+
+// A hand written into the caller's bytes, from the first on: the blocks written.
+pub fn write_hand(title: Title, tape: &[u32], out: &mut [u8]) -> Result<usize, NotWritten>
+    ensures answer { result ≡ writes_into (length out.old) title tape.now }
+    ensures bytes { out.new ≡ bytes_after (writes_into (length out.old) title tape.now) title tape.now out.old }
+{
+    let n = blocks_of(title, tape)?;
     if out.len() < 512 * n {
-        return HandWritten::NoRoom(n);
+        return Err(NotWritten::NoRoom(n));
     }
     put_blocks(out, title, tape, n);
-    HandWritten::Blocks(n)
+    Ok(n)
 }
 
 // ---- the reader
@@ -91,10 +100,11 @@ fn says(title: Title, n: usize, i: usize, part: &[u8]) -> bool
     ensures { result ≡ block_says title n i part.now }
 {
     let k = heads::title_at(part);
-    (words::wide(part[8]) == i) & ((part[9] == words::bit_of(i + 1 == n)) & k.is_same(title))
+    (usize::from(part[8]) == i) & ((part[9] == u8::from(i + 1 == n)) & k.is_same(title))
 }
 
 // Whether bytes are block i of n of a hand with this title.
+#[tactic(auto, unfolding(crate::specs::Hand::block_fits))]
 fn block_fits(title: Title, n: usize, i: usize, part: &[u8]) -> bool
     requires { i < n }
     ensures { result ≡ block_fits title n i part.now }
@@ -112,13 +122,7 @@ fn blocks_fit(bytes: &[u8], n: usize) -> bool
     ensures { result ≡ blocks_fit bytes.now }
 {
     let title = heads::title_at(bytes);
-    let mut fit = true;
-    for i in 0..n {
-        let at = 512 * i;
-        let to = at + 512;
-        fit = fit & block_fits(title, n, i, &bytes[at..to]);
-    }
-    fit
+    (0..n).all(|i| block_fits(title, n, i, &bytes[512 * i..512 * i + 512]))
 }
 
 // Entry i of a hand that has it.
@@ -135,47 +139,30 @@ fn is_spelt_in(bytes: &[u8], total: usize) -> bool
     requires total_bound { total ≤ 120 * blocks_in bytes.now }
     ensures { result ≡ spells (words_from bytes.now 0 total) }
 {
-    if word_in(bytes, 0) != 116 {
-        return false;
-    }
-    let mut name: u32 = 116;
-    let mut count: usize = 0;
-    let mut stacks: usize = 0;
-    let mut i: usize = 1;
-    while i < total {
-        let w = word_in(bytes, i);
-        if !lines::is_allowed(name, count, stacks, w) {
-            return false;
-        }
-        stacks = lines::stacks_after(name, count, stacks, w);
-        count = lines::count_after(count, w);
-        name = lines::name_after(name, w);
-        i += 1;
-    }
-    lines::count_ok(name, stacks, count)
+    lines::are_lines(total, |i| word_in(bytes, i))
 }
 
 // A hand's head, or 27: the bytes are those of one hand and no more.
-pub fn read_hand(bytes: &[u8]) -> HandRead
+pub fn read_hand(bytes: &[u8]) -> Result<HandHead, JournalError>
     ensures { result ≡ reads bytes.now }
 {
     let n = bytes.len() / 512;
     if bytes.len() % 512 != 0 {
-        return HandRead::Refused(JournalError::BadJournal);
+        return Err(JournalError::BadJournal);
     }
     if n < 1 {
-        return HandRead::Refused(JournalError::BadJournal);
+        return Err(JournalError::BadJournal);
     }
     if !blocks_fit(bytes, n) {
-        return HandRead::Refused(JournalError::BadJournal);
+        return Err(JournalError::BadJournal);
     }
-    let used = words::wide(bytes[512 * (n - 1) + 10]);
+    let used = usize::from(bytes[512 * (n - 1) + 10]);
     let entries = 120 * (n - 1) + used;
     if !is_spelt_in(bytes, entries) {
-        return HandRead::Refused(JournalError::BadJournal);
+        return Err(JournalError::BadJournal);
     }
     let title = heads::title_at(bytes);
-    HandRead::Hand(HandHead {
+    Ok(HandHead {
         title,
         blocks: n,
         entries,
@@ -183,6 +170,7 @@ pub fn read_hand(bytes: &[u8]) -> HandRead
 }
 
 // Entry i of a hand, 0 where its block is not there.
+#[tactic(auto, unfolding(crate::specs::Hand::word_given))]
 pub fn hand_entry(bytes: &[u8], i: usize) -> u32
     ensures { result ≡ word_given bytes.now i }
 {

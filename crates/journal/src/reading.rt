@@ -28,7 +28,7 @@ fn entry_count(bytes: &[u8]) -> usize
     if n < 1 {
         return 0;
     }
-    120 * (n - 1) + words::wide(bytes[512 * (n - 1) + 10])
+    120 * (n - 1) + usize::from(bytes[512 * (n - 1) + 10])
 }
 
 fn upper(w: u32) -> u16
@@ -37,22 +37,21 @@ fn upper(w: u32) -> u16
     (w / 65536) as u16
 }
 
-// The numbers that stand from a place on.
+// The numbers that stand from a place on, told by their places: they lie in blocks, and no slice holds them all.
 fn numbers_at(bytes: &[u8], from: usize, total: usize) -> Numbers
     ensures { result ≡ numbers_at bytes.now from total }
 {
-    let mut at = from;
     let mut count: usize = 0;
     let mut list = [0u16; 20];
-    while at < total {
+    for at in from..total {
         let w = hand::hand_entry(bytes, at);
         if !lines::is_number(w) {
             return Numbers { count, list };
         }
+        // The check takes the array that a call returns by a name of its own.
         let more = line::put_number(list, count, upper(w));
         list = more;
         count += 1;
-        at += 1;
     }
     Numbers { count, list }
 }

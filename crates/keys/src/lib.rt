@@ -4,7 +4,8 @@
 ghost use Rattle.std.specs.Prelude.{◌≡◌};
 ghost use Rattle.keys.specs.Keys.{is_key, is_good, is_same, is_before};
 
-#[derive(Clone, Copy)]
+// The order is by code, then by year, then by hand, as the fields stand.
+#[derive(Clone, Copy, PartialEq, Eq, PartialOrd, Ord)]
 pub struct HandKey {
     pub code: u16,
     pub year: u16,
@@ -36,15 +37,13 @@ impl HandKey {
     pub fn is_same(self, other: HandKey) -> bool
         ensures { result ≡ is_same self other }
     {
-        (self.code == other.code) & ((self.year == other.year) & (self.hand == other.hand))
+        self == other
     }
 
     // By code, then by year, then by hand.
     pub fn is_before(self, other: HandKey) -> bool
         ensures { result ≡ is_before self other }
     {
-        let by_hand = (self.year == other.year) & (self.hand < other.hand);
-        let by_year = (self.year < other.year) | by_hand;
-        (self.code < other.code) | ((self.code == other.code) & by_year)
+        self < other
     }
 }

@@ -8,6 +8,8 @@ mod layer;
 mod part;
 mod pick;
 
+use layer::Seated;
+
 // A hand to be settled: n seats, those active and those all in, the seat from which odd chips start, each seat's hand bet and rank.
 #[derive(Clone, Copy)]
 pub struct Hand {
@@ -24,9 +26,10 @@ pub fn is_payable(h: Hand) -> bool
     ensures { result ≡ is_payable h }
 {
     if h.n <= 16 {
+        let seated = Seated::new(h);
         // up to 8,001 of each bet shows whether the pot passes 8,000
-        let chips = layer::put_in(h, 8001);
-        let someone = layer::contested(h);
+        let chips = seated.put_in(8001);
+        let someone = seated.contested();
         return (h.first < h.n) & ((chips <= 8000) & someone);
     }
     false
@@ -49,13 +52,15 @@ fn paid_out(h: Hand) -> [u32; 16]
 {
     let n = h.n;
     let first = h.first;
+    let seated = Seated::new(h);
     let mut paid = [0u32; 16];
-    let mut u = layer::level_below(h, 8001);
-    let mut held = layer::put_in(h, 8001);
+    let mut u = seated.level_below(8001);
+    let mut held = seated.put_in(8001);
+    // By `loop`: the layers go from the top down, level by level, and no index counts them.
     loop {
-        let l = layer::level_below(h, u);
-        let low = layer::put_in(h, l);
-        let winners = layer::winners(h, u);
+        let l = seated.level_below(u);
+        let low = seated.put_in(l);
+        let winners = seated.winners(u);
         let amount = (held - low) as u32;
         let more = part::shared(n, first, winners, amount, paid);
         if l == 0 {

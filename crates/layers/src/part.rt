@@ -51,10 +51,11 @@ pub fn shared(n: usize, first: usize, set: u16, amount: u32, paid: [u32; 16]) ->
     let odd = amount % w;
     let mut k = 0u32;
     let mut out = paid;
-    for i in 0..16 {
+    // By place: std says nothing of `iter_mut` beside another list.
+    for (i, x) in paid.iter().enumerate() {
         let mine = bits::has(set, i);
         let p = ahead(first, i, w, f, k);
-        out[i] = paid[i] + seat_share(mine, equal, odd, p);
+        out[i] = *x + seat_share(mine, equal, odd, p);
         k = k + only(mine, 1);
     }
     out

@@ -1,15 +1,13 @@
 -- R15.3: the table that stands in a host's two lists, fs and ns. Definitions only.
-use Rattle.std.specs.Prelude.{ℕ, ◌+◌, Bool, false, cond, ◌&&◌, List, [], ◌∷◌, leb, ltb, length, Float}
+use Rattle.std.specs.Prelude.{ℕ, ◌+◌, Bool, cond, Option, Some, None, ◌&&◌, List, [], ◌∷◌, leb, ltb, length, Float}
 use Rattle.commons.specs.Tests.{all_of}
 use Rattle.seats.specs.Set.{of_bits}
 use Rattle.rounds.specs.declared.RoundData.{RoundData}
-use Rattle.rounds.specs.Steps.{no_data}
 use Rattle.rounds.specs.With.{data_of}
 use Rattle.table.specs.declared.GameState.{GameState}
 use Rattle.table.specs.declared.soundness.Frame.{Frame}
 use Rattle.table.specs.Sound.{sound_frame}
 use Rattle.table.specs.With.{table_of, no_table}
-use Rattle.layout.specs.declared.standing.DataStanding.{DataStanding}
 use Rattle.layout.specs.Added.{added_fits, added_at}
 use Rattle.layout.specs.Places.{NUM_PLAYERS, DEALER_IDX, ROUND, ROUND_BEFORE, PLAYER_ACTIVE, PLAYER_ALL_IN, STARTING_PLAYER_ACTIVE, NEEDS_ACTION, TO_ACT_IDX, ROUND_LENGTH, TOTAL_BET_COUNT, TOTAL_RAISE_COUNT, FORCED_BET_COUNT, BB_POSTED, SB_POSTED, HAS_CAP, CAP, BOARD_LENGTH, BOARD, NUMBERS, TOTAL_POT, BIG_BLIND, SMALL_BLIND, ANTE, ROUND_BET, MIN_RAISE, STACKS, STARTING_STACKS, HAND_BETS, WINNINGS, ROUND_BETS, FLOATS}
 use Rattle.layout.specs.Words.{word_at, set_at, byte_at, flag_at, round_at, float_at, sixteen_at}
@@ -100,12 +98,13 @@ stands_in fs ns = room_for (length fs) (length ns) && words_fit ns
 abbrev pub data_stands_in : List Float → List ℕ → Bool
 data_stands_in fs ns = room_for (length fs) (length ns) && data_fits ns
 
--- ---- R15.3, R15.15: the table and round data, read; zeros where there is no room
+-- ---- R15.3: the table, read; zeros where there is no room
 unfoldable pub table_in : List Float → List ℕ → GameState
 table_in fs ns = cond (room_for (length fs) (length ns)) (table_at fs ns) no_table
 
-unfoldable pub data_read_of : List Float → List ℕ → DataStanding
-data_read_of fs ns = cond (room_for (length fs) (length ns)) (record { stands = data_fits ns; «data» = data_at fs ns }) (record { stands = false; «data» = no_data })
+-- R15.15: the round data, where it stands there
+unfoldable pub data_read_of : List Float → List ℕ → Option RoundData
+data_read_of fs ns = cond (data_stands_in fs ns) (Some (data_at fs ns)) None
 
 -- R15.3: whether it is sound
 unfoldable pub sound_in : List ℕ → Bool

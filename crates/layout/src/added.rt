@@ -36,5 +36,5 @@ pub fn lay(numbers: &mut [u32], a: Added)
         words::word_of_set(key.year),
         key.hand,
     ];
-    commons::copying::copy_u32(numbers, places::ADDED, &list, 0, 3);
+    commons::copying::copy(numbers, places::ADDED, &list, 0, 3);
 }

@@ -13,7 +13,7 @@ fn lay_list(floats: &mut [f32], at: usize, list: [f32; 16])
     ensures floats_after { floats.new ≡ laid_list at list floats.old }
     ensures fits { length list ≡ 16 }
 {
-    commons::copying::copy_f32(floats, at, &list, 0, 16);
+    commons::copying::copy(floats, at, &list, 0, 16);
 }
 
 // The floats of a table, and what its step paid. The single amounts are in the order of their places.
@@ -36,7 +36,7 @@ fn lay_floats(floats: &mut [f32], t: GameState, paid: f32)
         d.min_raise,
         paid,
     ];
-    commons::copying::copy_f32(floats, 0, &single, 0, 7);
+    commons::copying::copy(floats, 0, &single, 0, 7);
     lay_list(floats, places::STACKS, stacks);
     lay_list(floats, places::STARTING_STACKS, starting);
     lay_list(floats, places::HAND_BETS, bets);
@@ -96,7 +96,7 @@ fn lay_numbers(numbers: &mut [u32], t: GameState, passed: usize)
 {
     let list = numbers_of(t, passed);
     let added = t.added;
-    commons::copying::copy_u32(numbers, 0, &list, 0, places::ADDED);
+    commons::copying::copy(numbers, 0, &list, 0, places::ADDED);
     added::lay(numbers, added);
 }
 
@@ -120,7 +120,7 @@ fn lay_data_floats(floats: &mut [f32], d: RoundData)
 {
     let bets = d.player_bet;
     let single = [d.bet, d.min_raise];
-    commons::copying::copy_f32(floats, places::ROUND_BET, &single, 0, 2);
+    commons::copying::copy(floats, places::ROUND_BET, &single, 0, 2);
     lay_list(floats, places::ROUND_BETS, bets);
 }
 
@@ -144,8 +144,8 @@ fn lay_data_numbers(numbers: &mut [u32], d: RoundData, passed: usize)
 {
     let list = data_words(d);
     let last = [words::word_of(passed)];
-    commons::copying::copy_u32(numbers, places::STARTING_PLAYER_ACTIVE, &list, 0, 7);
-    commons::copying::copy_u32(numbers, places::PASSED, &last, 0, 1);
+    commons::copying::copy(numbers, places::STARTING_PLAYER_ACTIVE, &list, 0, 7);
+    commons::copying::copy(numbers, places::PASSED, &last, 0, 1);
 }
 
 // Round data, at the round's places alone.

@@ -8,13 +8,6 @@ use seats::PlayerBitSet;
 use table::GameState;
 use table::soundness::Frame;
 
-// Whether round data stands there, and which; zeros where none does. Only the round's places are looked at.
-#[derive(Clone, Copy)]
-pub struct DataStanding {
-    pub stands: bool,
-    pub data: RoundData,
-}
-
 // Whether each word of the round is in the range of what it stands for.
 fn data_fits(numbers: &[u32]) -> bool
     ensures { result ≡ data_fits numbers.now }
@@ -26,6 +19,7 @@ fn data_fits(numbers: &[u32]) -> bool
                     & words::is_below(numbers, places::FORCED_BET_COUNT, 256))))
 }
 
+// The five places of the board, one by one as `board_tests` has them: a list may end before one, and a place that is not there is 0.
 fn board_fits(numbers: &[u32]) -> bool
     ensures { result ≡ board_fits numbers.now }
 {
@@ -63,6 +57,7 @@ pub fn stands(floats: usize, numbers: &[u32]) -> bool
     false
 }
 
+// The five places of the board, one by one for the same reason.
 fn board_at(numbers: &[u32]) -> [u8; 5]
     ensures { result ≡ board_at numbers.now }
 {
@@ -188,7 +183,7 @@ fn is_room(floats: usize, numbers: usize) -> bool
     (places::FLOATS <= floats) & (places::NUMBERS <= numbers)
 }
 
-// The table there; zeros where the lists are too short.
+// The table there; zeros where the lists are too short, and no Option: `table_in` promises them.
 pub fn table(floats: &[f32], numbers: &[u32]) -> GameState
     ensures { result ≡ table_in floats.now numbers.now }
 {
@@ -198,17 +193,12 @@ pub fn table(floats: &[f32], numbers: &[u32]) -> GameState
     GameState::none()
 }
 
-pub fn read_data(floats: &[f32], numbers: &[u32]) -> DataStanding
+// The round data there, where some stands. Only the round's places are looked at.
+pub fn read_data(floats: &[f32], numbers: &[u32]) -> Option<RoundData>
     ensures { result ≡ data_read_of floats.now numbers.now }
 {
-    if is_room(floats.len(), numbers.len()) {
-        return DataStanding {
-            stands: data_fits(numbers),
-            data: data_at(floats, numbers),
-        };
+    if is_room(floats.len(), numbers.len()) & data_fits(numbers) {
+        return Some(data_at(floats, numbers));
     }
-    DataStanding {
-        stands: false,
-        data: RoundData::none(),
-    }
+    None
 }

@@ -10,16 +10,14 @@ use rounds::Round;
 pub fn word_at(numbers: &[u32], k: usize) -> u32
     ensures { result ≡ word_at numbers.now k }
 {
-    if k < numbers.len() {
-        return numbers[k];
-    }
-    0
+    numbers.get(k).copied().unwrap_or(0)
 }
 
 // A word as a number, and its lowest digits as a set of seats.
 pub fn number_of(word: u32) -> usize
     ensures { result ≡ word }
 {
+    // By `as`, as in Rust: usize has no From of u32.
     word as usize
 }
 
@@ -66,7 +64,7 @@ pub fn is_below(numbers: &[u32], k: usize, limit: u32) -> bool
     word_at(numbers, k) < limit
 }
 
-// The round of a number, the last where there is none such.
+// The round of a number, the last where there is none such: no number is refused, so it is no TryFrom.
 fn round_of(word: u32) -> Round
     ensures { result ≡ round_of word }
 {
@@ -95,10 +93,7 @@ pub fn round_at(numbers: &[u32], k: usize) -> Round
 pub fn float_at(floats: &[f32], k: usize) -> f32
     ensures { result ≡ float_at floats.now k }
 {
-    if k < floats.len() {
-        return floats[k];
-    }
-    0.0 / 0.0
+    floats.get(k).copied().unwrap_or(f32::NAN)
 }
 
 // The sixteen from a place on.
@@ -106,7 +101,7 @@ pub fn sixteen_at(floats: &[f32], k: usize) -> [f32; 16]
     ensures { result ≡ sixteen_at floats.now k }
 {
     let mut list: [f32; 16] = [0.0; 16];
-    commons::copying::copy_f32(&mut list, 0, floats, k, 16);
+    commons::copying::copy(&mut list, 0, floats, k, 16);
     list
 }
 
@@ -122,18 +117,18 @@ pub fn word_of_set(set: u16) -> u32
     ensures value { result ≡ set }
     ensures low { result < 65536 }
 {
-    set as u32
+    u32::from(set)
 }
 
 pub fn word_of_byte(n: u8) -> u32
     ensures value { result ≡ n }
     ensures low { result < 256 }
 {
-    n as u32
+    u32::from(n)
 }
 
 pub fn word_of_flag(is: bool) -> u32
     ensures { result ≡ cond is 1 0 }
 {
-    if is { 1 } else { 0 }
+    u32::from(is)
 }

@@ -6,11 +6,11 @@ use mathlib.Core.Path.{◌≡◌, subst}
 use mathlib.Core.Bool.{Bool, false, cond, not, ◌&&◌}
 use lib.ListN.{get_or}
 use lib.Ieee.{Float, nan, binary32, add}
+use Rattle.std.specs.Prelude.{Ok}
 use Rattle.floats.specs.Helpers.{near_zero}
 use Rattle.seats.specs.Bits.{has}
 use Rattle.rounds.specs.Paying.{new_round_bet, new_bet, staked, left_of, owed_of}
 use Rattle.rounds.specs.Steps.{put_in, stake_in}
-use Rattle.bets.specs.declared.BetSize.TheVariants.{Pays as Sized}
 use Rattle.bets.specs.Bet.{bet_size, size_for}
 use Rattle.chips.specs.Rule.{Amount, pays, rule_of}
 use Rattle.chips.specs.Whole.{most, chips_in}
@@ -74,7 +74,7 @@ module _ (t : GameState) (w : Whole t) {total : ℕ} (g : Good t.num_players tot
   unfolding size_for bet_size
   follows = bet-is is-round is-stack (whole_is _ w.bet) (whole_is _ w.least) put-room (chips-le _)
 
-  pub pays_rule : (a : Float) (m : Amount) → Means a m → (x : Float) → size_of t a ≡ Sized x → (X : ℕ) × (rule_of m P K B M ≡ pays X) × Is x X
+  pub pays_rule : (a : Float) (m : Amount) → Means a m → (x : Float) → size_of t a ≡ Ok x → (X : ℕ) × (rule_of m P K B M ≡ pays X) × Is x X
   unfolding size_for bet_size
   pays_rule = accepted is-round is-stack (whole_is _ w.bet) (whole_is _ w.least) put-room (chips-le _)
 

@@ -11,19 +11,18 @@ use Rattle.commons.specs.Tests.{all_of}
 use Rattle.commons.specs.First.{first_from}
 use Rattle.commons.specs.Folds.{sum_to, all_to}
 use Rattle.commons.proofs.Tests.{test_at}
+use Rattle.refusals.specs.Rows.{verdict_number}
 use Rattle.floats.specs.Helpers.{max_of, min_of, abs_of, sign_of, tol_of, near_zero, zerof}
 use Rattle.amounts.specs.Amounts.{largest_of}
 use Rattle.seats.specs.Bits.{has, count_to, without}
 use Rattle.seats.specs.Set.{of_bits}
 use Rattle.rounds.specs.declared.Round.TheVariants.{Preflop, DealPreflop, Flop, DealFlop}
 use Rattle.rounds.specs.Paying.{owing_after}
-use Rattle.rounds.specs.Steps.{number_of}
 use Rattle.rounds.specs.Walk.{distance, walk_of}
 use Rattle.rounds.specs.With.{data_of}
 use Rattle.chips.specs.Whole.{most, is_whole, chips_in, all_whole, sum_chips}
 use Rattle.table.specs.declared.GameState.{GameState}
 use Rattle.table.specs.Added.{no_added, good_added}
-use Rattle.table.specs.Answers.{bet_number}
 use Rattle.table.specs.Pay.{bet_of, fold_of, award_of}
 use Rattle.table.specs.Sound.{cards_ok, board_ok, sound_frame}
 use Rattle.table.specs.With.{table_of}
@@ -57,9 +56,9 @@ by_actions =
     in_good_order start
     ∷ ltb 0 (owing_in start)
     ∷ is_stake (whole 20)
-    ∷ eqb (bet_number (bet_of start (whole 20) false).answer) 0
+    ∷ eqb (verdict_number (bet_of start (whole 20) false).answer) 0
     ∷ ltb 0 (owing_in raised)
-    ∷ eqb (number_of (fold_of raised).answer) 0
+    ∷ eqb (verdict_number (fold_of raised).answer) 0
     ∷ []
 
 -- ---- or seat 1 is awarded 10, which brings stacks and pot above 8,000, and calls; then seat 0 is awarded 30
@@ -85,11 +84,11 @@ unfoldable pub by-awards : List Bool
 by-awards =
     nothing_won start
     ∷ is_whole (whole 10)
-    ∷ eqb (number_of (award_of raised 1 (whole 10)).answer) 0
+    ∷ eqb (verdict_number (award_of raised 1 (whole 10)).answer) 0
     ∷ ltb most (chips_of above)
-    ∷ eqb (bet_number (bet_of above (whole 20) false).answer) 0
+    ∷ eqb (verdict_number (bet_of above (whole 20) false).answer) 0
     ∷ is_whole (whole 30)
-    ∷ eqb (number_of (award_of called 0 (whole 30)).answer) 0
+    ∷ eqb (verdict_number (award_of called 0 (whole 30)).answer) 0
     ∷ leb (awards_in mixed) (chips_in paid.total_pot)
     ∷ []
 
@@ -109,9 +108,9 @@ unfoldable pub by-folds : List Bool
 by-folds =
     in_good_order wide
     ∷ ltb 0 (owing_in wide)
-    ∷ eqb (number_of (fold_of wide).answer) 0
+    ∷ eqb (verdict_number (fold_of wide).answer) 0
     ∷ ltb 0 (owing_in once)
-    ∷ eqb (number_of (fold_of once).answer) 0
+    ∷ eqb (verdict_number (fold_of once).answer) 0
     ∷ has (owing wide) 3
     ∷ not (has (owing twice) 3)
     ∷ []

@@ -1,15 +1,14 @@
 -- R14.5 to R14.10, demand 3: the accepted actions of a run. Each is what `fold` or `do_bet` promises of the table before it; nothing is forced. And the
 -- accepted awards, and all three in any order. Definitions only.
-use Rattle.std.specs.Prelude.{ℕ, ◌+◌, ◌%◌, ◌<◌, ◌≡◌, Bool, true, false, not, ◌&&◌, List, [], ◌∷◌, eqb, Float}
+use Rattle.std.specs.Prelude.{ℕ, ◌+◌, ◌%◌, ◌<◌, ◌≡◌, Bool, true, false, not, ◌&&◌, List, [], ◌∷◌, eqb, Float, Result}
 use Rattle.std.specs.Float.{nan, inf, fin}
 use Rattle.std.specs.Float.Ieee.Positive.{num, den}
+use Rattle.refusals.specs.declared.Refusal.{Refusal}
+use Rattle.refusals.specs.Rows.{verdict_number}
 use Rattle.seats.specs.Bits.{has}
-use Rattle.bets.specs.declared.BetSize.{BetSize}
 use Rattle.bets.specs.Bet.{size_for}
 use Rattle.chips.specs.Whole.{is_whole, chips_in, all_whole}
-use Rattle.rounds.specs.Steps.{number_of}
 use Rattle.table.specs.declared.GameState.{GameState}
-use Rattle.table.specs.Answers.{bet_number}
 use Rattle.table.specs.Pay.{actor, payer_in, faced_by, pays_of, bet_of, fold_of, award_of}
 use Rattle.order.specs.GoodOrder.{won_by, owing, owing_in}
 
@@ -25,7 +24,7 @@ is_stake (inf s) = not s
 is_stake (fin s m e) = not s && eqb (num (fin s m e) % den (fin s m e)) 0
 
 -- what a bet by choice comes to on the table t, before its counters are looked at, and what it pays
-abbrev pub size_of : GameState → Float → BetSize
+abbrev pub size_of : GameState → Float → Result Float Refusal
 size_of t a = size_for false a (faced_by (payer_in t))
 
 abbrev pub due : GameState → Float → Float
@@ -33,8 +32,8 @@ due t a = pays_of (payer_in t) a false
 
 -- in the table t the action is accepted, its number being 0, and gives the table u
 abbrev pub Accepted : GameState → Action → GameState → Type 0
-Accepted t folds u = (number_of (fold_of t).answer ≡ 0) × ((fold_of t).table ≡ u)
-Accepted t (bets a) u = (is_stake a ≡ true) × (bet_number (bet_of t a false).answer ≡ 0) × ((bet_of t a false).table ≡ u)
+Accepted t folds u = (verdict_number (fold_of t).answer ≡ 0) × ((fold_of t).table ≡ u)
+Accepted t (bets a) u = (is_stake a ≡ true) × (verdict_number (bet_of t a false).answer ≡ 0) × ((bet_of t a false).table ≡ u)
 
 -- an action of a run, made while somebody owes
 pub record Step (t : GameState) (a : Action) (u : GameState) : Type 0 where
@@ -56,7 +55,7 @@ pub record Award : Type 0 where
 abbrev pub Awarded : GameState → Award → GameState → Type 0
 Awarded t w u =
     let s = award_of t w.seat w.amount in
-    (is_whole w.amount ≡ true) × (number_of s.answer ≡ 0) × (s.table ≡ u)
+    (is_whole w.amount ≡ true) × (verdict_number s.answer ≡ 0) × (s.table ≡ u)
 
 -- R14.10: the winnings are 0 at the start
 abbrev pub nothing_won : GameState → Bool

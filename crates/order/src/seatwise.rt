@@ -2,6 +2,8 @@
 ghost use Rattle.std.specs.Prelude.{◌≤◌};
 ghost use Rattle.order.specs.Seatwise.{Seatwise};
 
+use seats::bits::has;
+
 #[derive(Clone, Copy)]
 pub struct Seats {
     pub covered: bool,
@@ -21,18 +23,13 @@ pub fn tested(
     requires { n ≤ 16 }
     ensures { Seatwise n round hand stacks active owing result.covered result.holding result.playing }
 {
-    let mut covered = true;
-    let mut holding = true;
-    let mut playing = true;
-    for i in 0..n {
-        let plays = seats::bits::has(active, i);
-        covered = covered & (chips::chips_in(round[i]) <= chips::chips_in(hand[i]));
-        holding = holding & (!plays | (1 <= chips::chips_in(stacks[i])));
-        playing = playing & (!seats::bits::has(owing, i) | plays);
-    }
+    let mut bets = round[..n].iter().zip(&hand[..n]);
     Seats {
-        covered,
-        holding,
-        playing,
+        covered: bets.all(|(r, h)| chips::chips_in(*r) <= chips::chips_in(*h)),
+        holding: stacks[..n]
+            .iter()
+            .enumerate()
+            .all(|(i, x)| !has(active, i) | (1 <= chips::chips_in(*x))),
+        playing: (0..n).all(|i| !has(owing, i) | has(active, i)),
     }
 }

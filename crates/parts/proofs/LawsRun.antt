@@ -1,4 +1,5 @@
 -- A run of bets, bet by bet; and laid: it stands in the lists where it answers 0, and nothing is written where it answers 19. Assumes nothing.
+use Rattle.std.specs.Prelude.{Result, Ok, Err}
 use Prim.Native.Nat.{ℕ, zero, suc, ◌+◌, ◌≤◌}
 use native.Mathlib.Omega.{arith}
 use native.Mathlib.Numerals.{add-one}
@@ -8,10 +9,10 @@ use mathlib.Core.List.{List}
 use lib.ListN.{get_or, length}
 use lib.Ieee.{Float, nan}
 use Rattle.commons.proofs.Bools.{and_both}
+use Rattle.refusals.specs.declared.Refusal.{Refusal}
 use Rattle.table.specs.declared.GameState.{GameState}
-use Rattle.table.specs.declared.BetAnswer.{BetAnswer}
-use Rattle.table.specs.declared.BetAnswer.TheVariants.{Paid, NotPaid}
 use Rattle.table.specs.declared.BetStep.{BetStep}
+use Rattle.table.specs.declared.Paid.{Paid}
 use Rattle.table.specs.Pay.{bet_of}
 use Rattle.table.specs.Sound.{sound_of}
 use Rattle.table.proofs.LawsSound.{bet-sound}
@@ -22,9 +23,9 @@ use Rattle.layout.proofs.LawsOutcome.{After, refused-after}
 use Rattle.layout.proofs.LawsRead.{table-there, stands-room}
 use Rattle.parts.specs.Run.{paid_after, one_if_taken, with_bet, ran_to, can_run, nothing_run, run_on, Stands}
 
-pub taken-most : (a : BetAnswer) → one_if_taken a ≤ 1
-taken-most (Paid x k) = omega arith
-taken-most (NotPaid r) = omega arith
+pub taken-most : (a : Result Paid Refusal) → one_if_taken a ≤ 1
+taken-most (Ok p) = omega arith
+taken-most (Err r) = omega arith
 
 module _ (l : List Float) (t : GameState) where
   -- after k bets: the table, what was paid, and how many were taken

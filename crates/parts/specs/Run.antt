@@ -1,13 +1,13 @@
 -- R15.20: what a run of voluntary bets on the table in a host's lists, fs and ns, comes to. Definitions only.
-use Rattle.std.specs.Prelude.{ℕ, zero, suc, ◌+◌, ◌≡◌, Bool, false, cond, ◌&&◌, List, get_or, length, Float}
+use Rattle.std.specs.Prelude.{ℕ, zero, suc, ◌+◌, ◌≡◌, Bool, false, cond, ◌&&◌, List, get_or, length, Float, Result, Ok, Err}
 use Rattle.std.specs.Float.{nan, binary32}
 use Rattle.std.specs.Float.Ieee.{add}
 use Rattle.floats.specs.Helpers.{zerof}
+use Rattle.refusals.specs.declared.Refusal.{Refusal}
 use Rattle.refusals.specs.declared.AddedError.TheVariants.{BadRecord}
 use Rattle.refusals.specs.Number.{added_number}
 use Rattle.table.specs.declared.GameState.{GameState}
-use Rattle.table.specs.declared.BetAnswer.{BetAnswer}
-use Rattle.table.specs.declared.BetAnswer.TheVariants.{Paid, NotPaid}
+use Rattle.table.specs.declared.Paid.{Paid}
 use Rattle.table.specs.Pay.{bet_of}
 use Rattle.table.specs.Sound.{sound_of}
 use Rattle.table.specs.With.{no_table}
@@ -15,13 +15,13 @@ use Rattle.layout.specs.Outcome.{Outcome, outcome}
 use Rattle.layout.specs.Standing.{table_at, stands_in}
 
 -- ---- what was paid before a bet, and after it; and whether it counts
-abbrev pub paid_after : Float → BetAnswer → Float
-paid_after x (Paid y k) = add binary32 x y
-paid_after x (NotPaid r) = x
+abbrev pub paid_after : Float → Result Paid Refusal → Float
+paid_after x (Ok p) = add binary32 x p.amount
+paid_after x (Err r) = x
 
-abbrev pub one_if_taken : BetAnswer → ℕ
-one_if_taken (Paid x k) = 1
-one_if_taken (NotPaid r) = 0
+abbrev pub one_if_taken : Result Paid Refusal → ℕ
+one_if_taken (Ok p) = 1
+one_if_taken (Err r) = 0
 
 -- ---- one bet more: the table that it leaves, what was paid, and how many bets were taken
 abbrev pub with_bet : Outcome → Float → Outcome

@@ -5,7 +5,7 @@ ghost use Rattle.parts.specs.Run.{paid_after, one_if_taken, ran_to, run_on, Stan
 
 use layout::{outcome, standing};
 use refusals::{AddedError, Refusal};
-use table::{BetAnswer, BetStep, GameState};
+use table::{BetStep, GameState, Paid};
 
 // The table after a run, what was paid, and how many bets were taken.
 #[derive(Clone, Copy)]
@@ -16,21 +16,21 @@ pub struct Run {
 }
 
 // What was paid so far, with the payment of a bet that is taken.
-fn paid_after(paid: f32, answer: BetAnswer) -> f32
+fn paid_after(paid: f32, answer: Result<Paid, Refusal>) -> f32
     ensures { result ≡ paid_after paid answer }
 {
     match answer {
-        BetAnswer::Paid(x, _) => paid + x,
-        BetAnswer::NotPaid(_) => paid,
+        Ok(p) => paid + p.amount,
+        Err(_) => paid,
     }
 }
 
-fn one_if_taken(answer: BetAnswer) -> usize
+fn one_if_taken(answer: Result<Paid, Refusal>) -> usize
     ensures { result ≡ one_if_taken answer }
 {
     match answer {
-        BetAnswer::Paid(_, _) => 1,
-        BetAnswer::NotPaid(_) => 0,
+        Ok(_) => 1,
+        Err(_) => 0,
     }
 }
 
@@ -39,18 +39,16 @@ fn run_from(table: GameState, amounts: &[f32]) -> Run
 {
     // the step holds the table, so that each turn copies it once less
     let mut s = BetStep {
-        answer: BetAnswer::NotPaid(Refusal::Added(AddedError::BadRecord)),
+        answer: Err(Refusal::Added(AddedError::BadRecord)),
         table,
     };
     let mut paid = 0.0f32;
     let mut taken = 0usize;
-    let mut k = 0usize;
-    while k < amounts.len() {
-        s = s.table.do_bet(amounts[k], false);
+    for amount in amounts {
+        s = s.table.do_bet(*amount, false);
         let answer = s.answer;
         paid = paid_after(paid, answer);
         taken += one_if_taken(answer);
-        k += 1;
     }
     let t = s.table;
     Run {

@@ -1,10 +1,14 @@
 -- What is told of a table in other lists: all of it where there is room and a table, and nothing with 19 else. Assumes nothing.
+use Rattle.std.specs.Prelude.{Result, Ok, Err}
+use Rattle.refusals.specs.declared.Refusal.{Refusal}
+use Rattle.refusals.specs.Number.{number_of}
+use Rattle.refusals.specs.Rows.{verdict_number}
+use Rattle.refusals.proofs.Numbers.{numbered}
 use Prim.Native.Nat.{ℕ, ◌≤◌}
 use mathlib.Core.Path.{◌≡◌, refl, sym, subst, ◌∙◌}
 use mathlib.Core.Bool.{Bool, true, false, cond, ◌&&◌}
 use mathlib.Core.List.{List}
-use mathlib.Core.Logic.{◌≢◌}
-use borrow.Author.Tests.{eq-eqb, ne_eqb, leb-true}
+use borrow.Author.Tests.{ne_eqb, leb-true}
 use lib.Dec.{leb}
 use lib.ListN.{length, set}
 use lib.Ieee.{Float, nan}
@@ -12,9 +16,7 @@ use Rattle.commons.specs.Filled.{copied}
 use Rattle.commons.proofs.Bools.{and_both}
 use Rattle.refusals.specs.declared.Refusal.TheVariants.{Added}
 use Rattle.refusals.specs.declared.AddedError.TheVariants.{BadRecord}
-use Rattle.rounds.specs.declared.AmountAnswer.{AmountAnswer}
-use Rattle.rounds.specs.declared.AmountAnswer.TheVariants.{Unknown}
-use Rattle.rounds.specs.Steps.{amount_number, amount_of}
+use Rattle.rounds.specs.Steps.{amount_of}
 use Rattle.table.specs.declared.GameState.{GameState}
 use Rattle.table.specs.Pay.{reward_of}
 use Rattle.layout.specs.Standing.{stands_in, table_at, table_in}
@@ -33,31 +35,30 @@ module _ (fs : List Float) (ns : List ℕ) (ok : Bool) (e : ok ≡ stands_in fs 
   -- ---- the reward
   module _ (i : ℕ) (out : List Float) where
     abbrev pub Rewarded : ℕ → List Float → Type 0
-    Rewarded r out' = (r ≡ amount_number (reward_on fs ns i (length out))) × (out' ≡ amount_after (reward_on fs ns i (length out)) out)
+    Rewarded r out' = (r ≡ verdict_number (reward_on fs ns i (length out))) × (out' ≡ amount_after (reward_on fs ns i (length out)) out)
 
     pub one_place : leb 1 (length out) && ok ≡ true → 1 ≤ length out
     one_place h = leb-true _ _ (and_both (leb 1 (length out)) ok h).0
 
-    module _ (h : leb 1 (length out) && ok ≡ true) (t : GameState) (read : t ≡ table_in fs ns) (a : AmountAnswer) (asked : a ≡ reward_of t i) where
+    module _ (h : leb 1 (length out) && ok ≡ true) (t : GameState) (read : t ≡ table_in fs ns) (a : Result Float Refusal) (asked : a ≡ reward_of t i) where
       is_reward : reward_on fs ns i (length out) ≡ a
       is_reward =
-          (λ j. cond (with-stands (leb 1 (length out)) true h j) (reward_of (table_at fs ns) i) (Unknown (Added BadRecord)))
+          (λ j. cond (with-stands (leb 1 (length out)) true h j) (reward_of (table_at fs ns) i) (Err (Added BadRecord)))
           ∙ sym (asked ∙ λ j. reward_of ((read ∙ there (leb 1 (length out)) h) j) i)
 
-      pub rewarded : (x : Float) → amount_number a ≡ 0 → x ≡ amount_of a → Rewarded 0 (set out 0 x)
-      rewarded x z f =
-          subst (λ (v : AmountAnswer). (0 ≡ amount_number v) × (set out 0 x ≡ amount_after v out)) (sym is_reward)
-          (sym z, (λ j. set out 0 (f j)) ∙ λ j. cond (sym (eq-eqb (amount_number a) 0 z) j) (set out 0 (amount_of a)) out)
+      pub rewarded : (x : Float) → a ≡ Ok x → Rewarded 0 (set out 0 x)
+      rewarded x e =
+          subst (λ (v : Result Float Refusal). (0 ≡ verdict_number v) × (set out 0 x ≡ amount_after v out)) (sym (is_reward ∙ e)) (refl, refl)
 
-      pub unrewarded : (r : ℕ) → amount_number a ≢ 0 → r ≡ amount_number a → Rewarded r out
-      unrewarded r z f =
-          subst (λ (v : AmountAnswer). (r ≡ amount_number v) × (out ≡ amount_after v out)) (sym is_reward)
-          (f, λ j. cond (sym (ne_eqb (amount_number a) 0 z) j) (set out 0 (amount_of a)) out)
+      pub unrewarded : (q : Refusal) (r : ℕ) → a ≡ Err q → r ≡ number_of q → Rewarded r out
+      unrewarded q r e f =
+          subst (λ (v : Result Float Refusal). (r ≡ verdict_number v) × (out ≡ amount_after v out)) (sym (is_reward ∙ e))
+          (f, λ j. cond (sym (ne_eqb (number_of q) 0 (numbered q)) j) (set out 0 (amount_of (Err q))) out)
 
     pub no_reward : leb 1 (length out) && ok ≡ false → Rewarded 19 out
     no_reward h =
-        subst (λ (v : AmountAnswer). (19 ≡ amount_number v) × (out ≡ amount_after v out))
-        (λ j. cond (sym (with-stands (leb 1 (length out)) false h) j) (reward_of (table_at fs ns) i) (Unknown (Added BadRecord))) (refl, refl)
+        subst (λ (v : Result Float Refusal). (19 ≡ verdict_number v) × (out ≡ amount_after v out))
+        (λ j. cond (sym (with-stands (leb 1 (length out)) false h) j) (reward_of (table_at fs ns) i) (Err (Added BadRecord))) (refl, refl)
 
   -- ---- the queries
   module _ (i : ℕ) (amounts : List Float) (answers : List ℕ) where

@@ -1,4 +1,5 @@
 -- The bet in place, by its verdict: what is answered, what the lists then hold, and that the bet's own table stands there. Assumes nothing.
+use Rattle.std.specs.Prelude.{Result, Ok, Err}
 use Prim.Native.Nat.{ℕ, ◌<◌, ◌≤◌}
 use native.Mathlib.Omega.{arith}
 use mathlib.Core.Path.{◌≡◌, refl, sym, subst, ap, ◌∙◌}
@@ -14,8 +15,6 @@ use Rattle.refusals.specs.declared.Refusal.TheVariants.{Added}
 use Rattle.refusals.specs.declared.AddedError.TheVariants.{BadRecord}
 use Rattle.refusals.specs.Number.{number_of}
 use Rattle.refusals.proofs.Numbers.{numbered}
-use Rattle.bets.specs.declared.BetSize.{BetSize}
-use Rattle.bets.specs.declared.BetSize.TheVariants.{Pays, Refused}
 use Rattle.rounds.specs.declared.paying.Payer.{Payer}
 use Rattle.rounds.specs.declared.walking.Reached.{Reached}
 use Rattle.rounds.specs.Paying.{pay_of, seated}
@@ -69,19 +68,19 @@ module _ (fs : List Float) (ns : List ℕ) where
       )
 
   -- ---- on a sound table, with the payer as it was read
-  module _ (long : FLOATS ≤ length fs) (s : sound_in ns ≡ true) (a : Float) (forced : Bool) (p : Payer) (read : p ≡ payer_in (table_at fs ns)) (size : BetSize) (told : size ≡ verdict_of p a forced) where
+  module _ (long : FLOATS ≤ length fs) (s : sound_in ns ≡ true) (a : Float) (forced : Bool) (p : Payer) (read : p ≡ payer_in (table_at fs ns)) (size : (Result Float Refusal)) (told : size ≡ verdict_of p a forced) where
     abbrev t : GameState
     t = table_at fs ns
 
     verdict : size ≡ verdict_of (payer_in t) a forced
     verdict = told ∙ λ i. verdict_of (read i) a forced
 
-    pub is-refused : (r : Refusal) (k : ℕ) → size ≡ Refused r → k ≡ number_of r → Wagered (wagered (bet_of t a forced)) k fs ns
+    pub is-refused : (r : Refusal) (k : ℕ) → size ≡ Err r → k ≡ number_of r → Wagered (wagered (bet_of t a forced)) k fs ns
     is-refused r k e n =
         same-bet (wagered (not_paid r t)) _ k fs ns (ap wagered (bet-refused t a forced true (sym (sound-there fs ns s)) refl size verdict r e)) (refused-bet (wagered (not_paid r t)) k n (numbered r))
 
     -- q is what the payment made of the payer, w where the walk then came to
-    module _ (x : Float) (e : size ≡ Pays x) (n : ℕ) (seats : n ≡ word_at ns ROUND_LENGTH) (q : Payer) (by : q ≡ pay_of p x forced) (w : Reached) (walked : w ≡ walk_of q.owing n q.seat) where
+    module _ (x : Float) (e : size ≡ Ok x) (n : ℕ) (seats : n ≡ word_at ns ROUND_LENGTH) (q : Payer) (by : q ≡ pay_of p x forced) (w : Reached) (walked : w ≡ walk_of q.owing n q.seat) where
       pays : q ≡ payer_paid t x forced
       pays = by ∙ λ i. pay_of (read i) x forced
 

@@ -1,4 +1,9 @@
 -- A call on the table in the lists: what its step comes to where one stands there, and 19 with nothing written where none does. Assumes nothing.
+use Rattle.std.specs.Prelude.{Result, Ok, Err}
+use Rattle.std.specs.Result.{result_unwrap_or}
+use Rattle.refusals.specs.declared.Refusal.{Refusal}
+use Rattle.refusals.specs.Rows.{verdict_number}
+use Rattle.rounds.specs.Steps.{passed_of, amount_of}
 use Prim.Native.Nat.{ℕ, ◌≤◌}
 use native.Mathlib.Omega.{arith}
 use mathlib.Core.Path.{◌≡◌, refl, sym, subst, ap, ◌∙◌}
@@ -12,7 +17,6 @@ use Rattle.commons.proofs.Bools.{and_both, either}
 use Rattle.floats.specs.Helpers.{zerof}
 use Rattle.refusals.specs.declared.Refusal.TheVariants.{Added}
 use Rattle.refusals.specs.declared.AddedError.TheVariants.{BadRecord}
-use Rattle.rounds.specs.Steps.{number_of}
 use Rattle.table.specs.declared.GameState.{GameState}
 use Rattle.table.specs.declared.TableStep.{TableStep}
 use Rattle.table.specs.Answers.{done, refused}
@@ -110,7 +114,7 @@ module _ (fs : List Float) (ns : List ℕ) where
         → ok ≡ true
         → t ≡ table_in fs ns
         → u ≡ f t
-        → ((t : GameState) → number_of (f t).answer ≡ 0 → sound_of (f t).table ≡ true)
+        → ((t : GameState) → verdict_number (f t).answer ≡ 0 → sound_of (f t).table ≡ true)
         → After fs ns (stepped u) r fs' ns'
         → Answered (on fs ns (stepped (f (table_at fs ns)))) r fs' ns'
     step-done f t u r fs' ns' h read g sound a =
@@ -118,3 +122,12 @@ module _ (fs : List Float) (ns : List ℕ) where
         let is : stepped u ≡ stepped (f (table_at fs ns)) = ap stepped (g ∙ ap f (read ∙ table-there fs ns there)) in
         on-table _ r fs' ns' there
         (answered _ r fs' ns' (stands-room fs ns there) (sound (table_at fs ns)) (subst (λ (v : Outcome). After fs ns v r fs' ns') is a))
+
+-- ---- what is told of an answer, or else 0
+pub passed-or : (a : Result ℕ Refusal) → result_unwrap_or a 0 ≡ passed_of a
+passed-or (Ok k) = refl
+passed-or (Err r) = refl
+
+pub amount-or : (a : Result Float Refusal) → result_unwrap_or a zerof ≡ amount_of a
+amount-or (Ok x) = refl
+amount-or (Err r) = refl

@@ -1,4 +1,5 @@
 -- Round data that a call makes, or that an accepted step leaves of what stood in the lists, fits its places. Assumes nothing.
+use Rattle.refusals.specs.Rows.{verdict_number}
 use Prim.Native.Nat.{ℕ, zero, suc, ◌<◌, ◌≤◌, ◌^◌, min}
 use native.Mathlib.Nat.{mod-lt, lt_of_lt_of_le}
 use native.Mathlib.Omega.{arith}
@@ -21,7 +22,7 @@ use Rattle.seats.specs.Set.{of_bits}
 use Rattle.rounds.specs.declared.RoundStep.{RoundStep}
 use Rattle.rounds.specs.Paying.{is_raise, up_if, new_round_bet}
 use Rattle.rounds.specs.Sound.{sound_parts, sound_data}
-use Rattle.rounds.specs.Steps.{new_of, with_bets_of, advance_of, bet_of, bet_rows, stake_in, number_of}
+use Rattle.rounds.specs.Steps.{new_of, with_bets_of, advance_of, bet_of, bet_rows, stake_in}
 use Rattle.rounds.proofs.Sound.{sound}
 use Rattle.rounds.proofs.Walk.{walk-seated}
 use Rattle.layout.specs.Places.{ROUND_BETS}
@@ -31,7 +32,7 @@ use Rattle.peatcloak.proofs.LawsDataBack.{Fits}
 
 -- where a step is accepted
 abbrev pub StepFits : RoundStep → Type 0
-StepFits s = number_of s.answer ≡ 0 → Fits s.round_data
+StepFits s = verdict_number s.answer ≡ 0 → Fits s.round_data
 
 -- ---- new data
 low-set : (n set : ℕ) → n ≤ 16 → set < 2 ^ n → set < 65536

@@ -8,6 +8,7 @@ use mathlib.Core.List.{List, [], ◌∷◌}
 use lib.Dec.{eqb, ltb}
 use lib.ListN.{length}
 use lib.Ieee.{Float}
+use Rattle.std.specs.Bool.{then_some}
 use Rattle.commons.specs.Tests.{all_of}
 use Rattle.commons.proofs.Bools.{pick}
 use Rattle.refusals.proofs.Rows.{stands-at-zero}
@@ -18,9 +19,9 @@ use Rattle.builder.specs.Setters.{builder_of}
 use Rattle.builder.proofs.LawsKey.{build-carries}
 use Rattle.layout.specs.Outcome.{Outcome}
 use Rattle.layout.specs.Places.{GIVEN_STACKS, GIVEN_BIG_BLIND, GIVEN_SMALL_BLIND, GIVEN_ANTE, GIVEN_DEALER, GIVEN_DEALER_IS, GIVEN_CAP, GIVEN_CAP_CAPS, GIVEN_CAP_IS, GIVEN_ROUND, GIVEN_ROUND_IS, GIVEN_BOARD, GIVEN_HANDS, GIVEN_HANDS_ARE, GIVEN_PLAYER_BET, GIVEN_ROUND_DATA, GIVEN_KEY, GIVEN_KEY_CODE, GIVEN_KEY_YEAR, GIVEN_KEY_HAND, GIVEN_FREE, AMOUNT_BIG_BLIND, AMOUNT_SMALL_BLIND, AMOUNT_ANTE}
-use Rattle.layout.specs.Standing.{room_for, words_fit, data_read_of}
+use Rattle.layout.specs.Standing.{room_for, words_fit}
 use Rattle.layout.specs.Words.{word_at, round_of, float_at}
-use Rattle.peatcloak.specs.Building.{room_to_build, tells, amount_given, number_given, amounts_given, board_given, builder_at, given_fit, built, build_on}
+use Rattle.peatcloak.specs.Building.{room_to_build, tells, amounts_given, board_given, data_given, builder_at, given_fit, built, build_on}
 use Rattle.peatcloak.specs.Calls.{nothing_there}
 use Rattle.peatcloak.specs.GivenAdded.{key_given, added_given}
 
@@ -44,16 +45,16 @@ module _ (fs : List Float) (ns : List ℕ) (stacks bets : List Float) (board : L
         λ z.
         builder_of
         (amounts_given (eqb (e GIVEN_STACKS (omega arith) z) 1) stacks)
-        (amount_given (eqb (e GIVEN_BIG_BLIND (omega arith) z) 1) (float_at amounts AMOUNT_BIG_BLIND))
-        (amount_given (eqb (e GIVEN_SMALL_BLIND (omega arith) z) 1) (float_at amounts AMOUNT_SMALL_BLIND))
-        (amount_given (eqb (e GIVEN_ANTE (omega arith) z) 1) (float_at amounts AMOUNT_ANTE))
-        (number_given (eqb (e GIVEN_DEALER (omega arith) z) 1) (e GIVEN_DEALER_IS (omega arith) z))
-        (record { given = eqb (e GIVEN_CAP (omega arith) z) 1; capped = eqb (e GIVEN_CAP_CAPS (omega arith) z) 1; value = e GIVEN_CAP_IS (omega arith) z % 256 })
-        (record { given = eqb (e GIVEN_ROUND (omega arith) z) 1; value = round_of (e GIVEN_ROUND_IS (omega arith) z) })
+        (then_some (eqb (e GIVEN_BIG_BLIND (omega arith) z) 1) (float_at amounts AMOUNT_BIG_BLIND))
+        (then_some (eqb (e GIVEN_SMALL_BLIND (omega arith) z) 1) (float_at amounts AMOUNT_SMALL_BLIND))
+        (then_some (eqb (e GIVEN_ANTE (omega arith) z) 1) (float_at amounts AMOUNT_ANTE))
+        (then_some (eqb (e GIVEN_DEALER (omega arith) z) 1) (e GIVEN_DEALER_IS (omega arith) z))
+        (then_some (eqb (e GIVEN_CAP (omega arith) z) 1) (record { capped = eqb (e GIVEN_CAP_CAPS (omega arith) z) 1; value = e GIVEN_CAP_IS (omega arith) z % 256 }))
+        (then_some (eqb (e GIVEN_ROUND (omega arith) z) 1) (round_of (e GIVEN_ROUND_IS (omega arith) z)))
         (board_given (eqb (e GIVEN_BOARD (omega arith) z) 1) board)
-        (number_given (eqb (e GIVEN_HANDS (omega arith) z) 1) (e GIVEN_HANDS_ARE (omega arith) z))
+        (then_some (eqb (e GIVEN_HANDS (omega arith) z) 1) (e GIVEN_HANDS_ARE (omega arith) z))
         (amounts_given (eqb (e GIVEN_PLAYER_BET (omega arith) z) 1) bets)
-        (record { given = eqb (e GIVEN_ROUND_DATA (omega arith) z) 1; value = (data_read_of fs ns).«data» })
+        (data_given (eqb (e GIVEN_ROUND_DATA (omega arith) z) 1) fs ns)
         (added_of (key_unread z))
 
     given-untested : given_fit hs ≡ given_fit gs

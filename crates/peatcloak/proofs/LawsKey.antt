@@ -1,6 +1,7 @@
 -- The key of the hand across the boundary, over all calls on a table at once. The key that stands in the lists stays (`key-stays`), and no word from FREE on
 -- is written (`free_stays`). On lists that tell the same table with another good key, a call comes to the same, but for the key (`key_apart`), and what is
 -- asked is told the same (`asked_apart`, `reward_told_apart`, `rewards_apart`). Assumes nothing.
+use Rattle.std.specs.Prelude.{Err}
 use Prim.Native.Nat.{ℕ, ◌≤◌, ◌<◌}
 use native.Mathlib.Omega.{arith}
 use mathlib.Core.Path.{◌≡◌, refl, sym, ap, ◌∙◌}
@@ -16,7 +17,6 @@ use Rattle.floats.specs.Helpers.{zerof}
 use Rattle.refusals.specs.declared.Refusal.TheVariants.{Added}
 use Rattle.refusals.specs.declared.AddedError.TheVariants.{BadRecord}
 use Rattle.seats.specs.Bits.{count_to}
-use Rattle.rounds.specs.declared.AmountAnswer.TheVariants.{Unknown}
 use Rattle.keys.specs.declared.HandKey.{HandKey}
 use Rattle.keys.specs.Keys.{is_good}
 use Rattle.table.specs.declared.GameState.{GameState}
@@ -183,7 +183,7 @@ module _ (fs : List Float) (ns ms : List ℕ) (a : Alike ns ms) where
   )
 
   pub reward_told_apart : (i room : ℕ) → reward_on fs ms i room ≡ reward_on fs ns i room
-  reward_told_apart i room = (λ z. cond (leb 1 room && stands_same z) (reward_of (table_is z) i) (Unknown (Added BadRecord))) ∙ λ z. cond (leb 1 room && stands_in fs ns) (reward_apart t k good a.good_too i z) (Unknown (Added BadRecord))
+  reward_told_apart i room = (λ z. cond (leb 1 room && stands_same z) (reward_of (table_is z) i) (Err (Added BadRecord))) ∙ λ z. cond (leb 1 room && stands_in fs ns) (reward_apart t k good a.good_too i z) (Err (Added BadRecord))
 
   -- ---- and the rewards of a settlement
   pub rewards_apart : (ranks : List ℕ) → (settled_at fs ms ranks).rewards ≡ (settled_at fs ns ranks).rewards

@@ -1,18 +1,22 @@
 -- The next round in place: what it stores makes of the lists that stood there the lists with the next round's table laid; where the hand is complete,
 -- it stores the answers alone. Assumes nothing.
-use Prim.Native.Nat.{ℕ, suc, ◌+◌, ◌<◌, ◌≤◌}
+use Prim.Native.Nat.{ℕ, suc, ◌+◌, ◌-◌, ◌<◌, ◌≤◌}
 use native.Mathlib.Numerals.{add-one}
 use native.Mathlib.Omega.{arith}
 use mathlib.Core.Path.{◌≡◌, refl, sym, subst, ◌∙◌}
 use mathlib.Core.Logic.{◌≢◌, ⊎_elim}
 use mathlib.Core.Bool.{true, false, ◌&&◌}
-use mathlib.Core.List.{List}
+use mathlib.Core.List.{List, ◌++◌}
 use lib.Dec.{eqb}
-use lib.ListN.{get_or, set, length}
+use lib.ListN.{get_or, set, length, take, replicate}
 use lib.Ieee.{Float, nan}
 use borrow.Author.Tests.{eq-eqb, ne_eqb, ltb-true}
+use borrow.Rule.Slice.PartMut.{put_mid}
+use Rattle.std.proofs.lemmas.List.{drop-drop, length-replicate, get_or-replicate}
+use Rattle.std.proofs.lemmas.List.Edits.{paste_all}
 use Rattle.commons.specs.Filled.{laid}
-use Rattle.commons.proofs.Filled.{filled-long, filled_at, filled-out, laid-long, laid_out, laid-at}
+use Rattle.commons.proofs.Filled.{filled-long, filled_at, filled-out, laid_cong, laid-long, laid_out, laid-at}
+use Rattle.commons.proofs.Pasted.{laid_pasted}
 use Rattle.commons.proofs.Order.{lt_or_le}
 use Rattle.commons.proofs.Tests.{test_at}
 use Rattle.floats.specs.Helpers.{zerof}
@@ -43,6 +47,18 @@ use Rattle.peatcloak.proofs.LawsCalls.{Answered, step-laid}
 -- ---- what is stored: of the floats, and of the numbers
 abbrev pub bets_cleared : ℕ → List Float → List Float
 bets_cleared n fs = laid ROUND_BETS n fs (λ k. zerof)
+
+-- zeros between what stood before and behind them
+pub bets-filled : (fs : List Float) (n : ℕ) (p : List Float) → ROUND_BETS + n ≤ length fs → p ≡ replicate n zerof → put_mid ROUND_BETS (ROUND_BETS + n - ROUND_BETS) fs p ≡ bets_cleared n fs
+bets-filled fs n p h e =
+    let z : List Float = replicate n zerof in
+    let a : ROUND_BETS + n - ROUND_BETS ≡ n = omega arith in
+    let long : n ≡ length z = sym (length-replicate n zerof) in
+    (λ i. put_mid ROUND_BETS (a i) fs (e i))
+    ∙ (λ i. take ROUND_BETS fs ++ (z ++ drop-drop n ROUND_BETS fs i))
+    ∙ sym (paste_all fs ROUND_BETS z n long)
+    ∙ sym (laid_pasted nan ROUND_BETS fs z n h (omega arith))
+    ∙ laid_cong ROUND_BETS fs _ _ n (λ k b. get_or-replicate n k zerof nan b)
 
 abbrev round_floats : List Float → ℕ → List Float
 round_floats fs n = bets_cleared n (set (set (set fs ROUND_BET zerof) MIN_RAISE (float_at fs BIG_BLIND)) PAID zerof)

@@ -1,4 +1,6 @@
 -- A hand read from a host's bytes: what each call tells, by whether the lists are long enough. Assumes nothing.
+use Rattle.std.specs.Prelude.{Result}
+use Rattle.refusals.specs.declared.JournalError.{JournalError}
 use Prim.Native.Nat.{ℕ, ◌≤◌, ◌<◌}
 use mathlib.Core.Path.{◌≡◌, ap, ◌∙◌}
 use mathlib.Core.Bool.{true, false, ◌&&◌}
@@ -7,14 +9,14 @@ use borrow.Author.Tests.{le-leb, lt-leb}
 use lib.Dec.{leb}
 use lib.ListN.{length}
 use Rattle.commons.specs.Filled.{copied}
-use Rattle.journal.specs.declared.block.BlockRead.{BlockRead}
-use Rattle.journal.specs.declared.hand.HandRead.{HandRead}
+use Rattle.journal.specs.declared.block.Head.{Head}
+use Rattle.journal.specs.declared.hand.HandHead.{HandHead}
 use Rattle.journal.specs.declared.reading.LineRead.{LineRead}
 use Rattle.journal.specs.Hand.{reads}
 use Rattle.journal.specs.Read.{read_of}
 use Rattle.journal.specs.Reading.{line_read}
 use Rattle.layout.specs.Words.{word_of}
-use Rattle.peatcloak.specs.Reading.{Told, told, block_read_number, block_read_told, read_block_on, hand_read_number, hand_read_told, read_hand_on, line_told, line_words, line_at_on}
+use Rattle.peatcloak.specs.Reading.{Told, told, read_number, block_read_told, read_block_on, hand_read_told, read_hand_on, line_told, line_words, line_at_on}
 
 -- what a call that comes to t answers and tells
 abbrev pub Tells : Told → ℕ → List ℕ → Type 0
@@ -25,20 +27,20 @@ tells t r head e = ((λ i. (e i).number), (λ i. (e i).head))
 
 module _ (bytes head : List ℕ) where
   -- ---- a block
-  pub block-told : (b : BlockRead) (r : ℕ) (head' : List ℕ) → 7 ≤ length head → b ≡ read_of bytes → r ≡ block_read_number b → head' ≡ block_read_told b head → Tells (read_block_on bytes head) r head'
+  pub block-told : (b : Result Head JournalError) (r : ℕ) (head' : List ℕ) → 7 ≤ length head → b ≡ read_of bytes → r ≡ read_number b → head' ≡ block_read_told b head → Tells (read_block_on bytes head) r head'
   unfolding read_block_on
   block-told b r head' room e n t =
-      tells (read_block_on bytes head) r head' ((λ i. told ((n ∙ ap block_read_number e) i) ((t ∙ λ j. block_read_told (e j) head) i)) ∙ simp (le-leb 7 (length head) room))
+      tells (read_block_on bytes head) r head' ((λ i. told ((n ∙ ap read_number e) i) ((t ∙ λ j. block_read_told (e j) head) i)) ∙ simp (le-leb 7 (length head) room))
 
   pub block_untold : length head < 7 → Tells (read_block_on bytes head) 19 head
   unfolding read_block_on
   block_untold short = tells (read_block_on bytes head) 19 head (simp (lt-leb 7 (length head) short))
 
   -- ---- a hand
-  pub hand-told : (h : HandRead) (r : ℕ) (head' : List ℕ) → 6 ≤ length head → h ≡ reads bytes → r ≡ hand_read_number h → head' ≡ hand_read_told h head → Tells (read_hand_on bytes head) r head'
+  pub hand-told : (h : Result HandHead JournalError) (r : ℕ) (head' : List ℕ) → 6 ≤ length head → h ≡ reads bytes → r ≡ read_number h → head' ≡ hand_read_told h head → Tells (read_hand_on bytes head) r head'
   unfolding read_hand_on
   hand-told h r head' room e n t =
-      tells (read_hand_on bytes head) r head' ((λ i. told ((n ∙ ap hand_read_number e) i) ((t ∙ λ j. hand_read_told (e j) head) i)) ∙ simp (le-leb 6 (length head) room))
+      tells (read_hand_on bytes head) r head' ((λ i. told ((n ∙ ap read_number e) i) ((t ∙ λ j. hand_read_told (e j) head) i)) ∙ simp (le-leb 6 (length head) room))
 
   pub hand_untold : length head < 6 → Tells (read_hand_on bytes head) 19 head
   unfolding read_hand_on

@@ -1,4 +1,5 @@
 -- A hand played again into the lists: what is answered, told and laid where there is room, and that nothing is where there is none. Assumes nothing.
+use Rattle.std.specs.Prelude.{unwrap_or}
 use Prim.Native.Nat.{ℕ, ◌<◌}
 use mathlib.Core.Path.{◌≡◌, sym, ◌∙◌, subst}
 use mathlib.Core.Bool.{Bool, true, false, cond}
@@ -9,8 +10,10 @@ use lib.Ieee.{Float}
 use Rattle.commons.proofs.Bools.{and_both}
 use Rattle.journal.specs.Check.{byte}
 use Rattle.recorder.specs.declared.replaying.Replayed.{Replayed}
-use Rattle.recorder.specs.Replay.{replay_bytes}
+use Rattle.recorder.specs.Replay.{replay_number, replay_bytes}
 use Rattle.recorder.proofs.LawsReplayed.{replay_sound}
+use Rattle.table.specs.Sound.{sound_of}
+use Rattle.table.specs.With.{no_table}
 use Rattle.layout.specs.Outcome.{Outcome, floats_after, numbers_after}
 use Rattle.layout.specs.Standing.{room_for}
 use Rattle.layout.proofs.LawsOutcome.{After}
@@ -35,16 +38,17 @@ module _ (fs : List Float) (ns bytes out : List ℕ) where
   pub replay_done : ((i : ℕ) → byte bytes i < 256) → can ≡ true → (p : Replayed) (r : ℕ) (fs' : List Float) (ns' out' : List ℕ)
       → p ≡ replay_bytes bytes
       → After fs ns (again p) r fs' ns'
-      → out' ≡ lines_told p.number p.lines out
+      → out' ≡ lines_told (replay_number p) p.lines out
       → Replays r fs' ns' out'
   replay_done small h p r fs' ns' out' e a g =
       let is : again (replay_bytes bytes) ≡ o = λ i. cond (sym h i) (again (replay_bytes bytes)) (nothing_there fs ns) in
+      let there-sound : replay_number (replay_bytes bytes) ≡ 0 → sound_of (unwrap_or (replay_bytes bytes).state.table no_table) ≡ true = λ z. let t = replay_sound bytes small z in (λ i. sound_of (unwrap_or (t.1 i) no_table)) ∙ t.2 in
       let room = (and_both (leb 1 (length out)) (room_for (length fs) (length ns)) h).1 in
-      let laid = laid_so fs ns (again (replay_bytes bytes)) r fs' ns' room (replay_sound bytes small) (subst (λ (v : Replayed). After fs ns (again v) r fs' ns') e a) in
+      let laid = laid_so fs ns (again (replay_bytes bytes)) r fs' ns' room there-sound (subst (λ (v : Replayed). After fs ns (again v) r fs' ns') e a) in
       with_out r fs' ns' out' (same_call fs ns (again (replay_bytes bytes)) o r fs' ns' is laid)
-      (g ∙ (λ i. lines_told (e i).number (e i).lines out) ∙ λ i. cond (sym h i) (lines_told (replay_bytes bytes).number (replay_bytes bytes).lines out) out)
+      (g ∙ (λ i. lines_told (replay_number (e i)) (e i).lines out) ∙ λ i. cond (sym h i) (lines_told (replay_number (replay_bytes bytes)) (replay_bytes bytes).lines out) out)
 
   pub replay_nothing : can ≡ false → Replays 19 fs ns out
   replay_nothing h =
       let is : nothing_there fs ns ≡ o = λ i. cond (sym h i) (again (replay_bytes bytes)) (nothing_there fs ns) in
-      with_out 19 fs ns out (same_call fs ns (nothing_there fs ns) o 19 fs ns is (nothing-done fs ns)) (λ i. cond (sym h i) (lines_told (replay_bytes bytes).number (replay_bytes bytes).lines out) out)
+      with_out 19 fs ns out (same_call fs ns (nothing_there fs ns) o 19 fs ns is (nothing-done fs ns)) (λ i. cond (sym h i) (lines_told (replay_number (replay_bytes bytes)) (replay_bytes bytes).lines out) out)

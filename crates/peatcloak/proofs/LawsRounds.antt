@@ -1,8 +1,13 @@
 -- A call on the round data in the lists: what its step comes to where it can be made, and 19 with nothing written where it cannot. Assumes nothing.
+use Rattle.std.specs.Prelude.{Option, Some, None, Ok, Err}
+use Rattle.std.proofs.lemmas.Option.{none-some}
+use Rattle.refusals.specs.declared.Refusal.{Refusal}
+use Rattle.refusals.specs.Number.{number_of}
+use Rattle.refusals.specs.Rows.{verdict_number}
+use Rattle.refusals.proofs.Numbers.{numbered}
 use Prim.Native.Nat.{ℕ}
 use native.Mathlib.Omega.{arith}
 use mathlib.Core.Path.{◌≡◌, refl, sym, subst, ap, ◌∙◌}
-use mathlib.Core.Logic.{◌≢◌}
 use mathlib.Core.Bool.{Bool, true, false, cond, ◌&&◌}
 use mathlib.Core.List.{List}
 use lib.Dec.{leb}
@@ -13,8 +18,7 @@ use Rattle.commons.specs.Filled.{copied}
 use Rattle.commons.proofs.Bools.{and_both}
 use Rattle.rounds.specs.declared.RoundData.{RoundData}
 use Rattle.rounds.specs.declared.RoundStep.{RoundStep}
-use Rattle.rounds.specs.Steps.{no_data, number_of, passed_of}
-use Rattle.layout.specs.declared.standing.DataStanding.{DataStanding}
+use Rattle.rounds.specs.Steps.{passed_of}
 use Rattle.layout.specs.Laid.{data_floats, data_numbers, floats_data_laid, numbers_data_laid}
 use Rattle.layout.specs.Standing.{room_for, data_fits, data_stands_in, data_at, data_read_of}
 use Rattle.layout.proofs.LawsRead.{room_of}
@@ -26,30 +30,29 @@ use Rattle.peatcloak.specs.Rounds.{nothing_there, on_data, data_floats_after, da
 module _ (fs : List Float) (ns : List ℕ) where
   -- the number that a step answers, and the lists after it
   abbrev pub Stepped : RoundStep → ℕ → List Float → List ℕ → Type 0
-  Stepped s r fs' ns' = (r ≡ number_of s.answer) × ((fs' ≡ data_floats_after (length ns) s fs) × (ns' ≡ data_numbers_after (length fs) s ns))
+  Stepped s r fs' ns' = (r ≡ verdict_number s.answer) × ((fs' ≡ data_floats_after (length ns) s fs) × (ns' ≡ data_numbers_after (length fs) s ns))
 
   -- ---- a step that is accepted is laid, and one that is refused leaves the lists as they were
   module _ (s : RoundStep) where
-    pub step-laid : (n passed : ℕ) (fs' : List Float) (ns' : List ℕ)
-        → n ≡ number_of s.answer
-        → n ≡ 0
-        → passed ≡ passed_of s.answer
+    pub step-laid : (passed : ℕ) (fs' : List Float) (ns' : List ℕ)
+        → s.answer ≡ Ok passed
         → (fs' ≡ floats_data_laid (length ns) s.round_data fs) × (ns' ≡ numbers_data_laid (length fs) s.round_data passed ns)
         → Stepped s 0 fs' ns'
-    step-laid n passed fs' ns' e z p h =
-        let zero_is = sym e ∙ z in
-        let b = sym (eq-eqb (number_of s.answer) 0 zero_is) in (
+    step-laid passed fs' ns' e h =
+        let zero_is : verdict_number s.answer ≡ 0 = λ i. verdict_number (e i) in
+        let b = sym (eq-eqb (verdict_number s.answer) 0 zero_is) in (
           sym zero_is,
           (
             h.0 ∙ (λ i. cond (b i) (floats_data_laid (length ns) s.round_data fs) fs),
-            h.1 ∙ (λ i. numbers_data_laid (length fs) s.round_data (p i) ns) ∙ (λ i. cond (b i) (numbers_data_laid (length fs) s.round_data (passed_of s.answer) ns) ns),
+            h.1 ∙ (λ i. numbers_data_laid (length fs) s.round_data (sym (λ j. passed_of (e j)) i) ns) ∙ (λ i. cond (b i) (numbers_data_laid (length fs) s.round_data (passed_of s.answer) ns) ns),
           ),
         )
 
-    pub step_kept : (n r : ℕ) → n ≡ number_of s.answer → n ≢ 0 → r ≡ number_of s.answer → Stepped s r fs ns
-    step_kept n r e z f =
-        let b = sym (ne_eqb (number_of s.answer) 0 (λ q. z (e ∙ q))) in (
-          f,
+    pub step_kept : (q : Refusal) (r : ℕ) → s.answer ≡ Err q → r ≡ number_of q → Stepped s r fs ns
+    step_kept q r e f =
+        let is : verdict_number s.answer ≡ number_of q = λ i. verdict_number (e i) in
+        let b = sym (ne_eqb (verdict_number s.answer) 0 (λ z. numbered q (sym is ∙ z))) in (
+          f ∙ sym is,
           (
             (λ i. cond (b i) (floats_data_laid (length ns) s.round_data fs) fs),
             (λ i. cond (b i) (numbers_data_laid (length fs) s.round_data (passed_of s.answer) ns) ns),
@@ -58,7 +61,7 @@ module _ (fs : List Float) (ns : List ℕ) where
 
   -- ---- what was laid stands there
   abbrev pub Stood : RoundStep → ℕ → List Float → List ℕ → Type 0
-  Stood s r fs' ns' = (r ≡ number_of s.answer) × ((fs' ≡ data_floats_after (length ns) s fs) × ((ns' ≡ data_numbers_after (length fs) s ns) × DataStands r fs' ns' s))
+  Stood s r fs' ns' = (r ≡ verdict_number s.answer) × ((fs' ≡ data_floats_after (length ns) s fs) × ((ns' ≡ data_numbers_after (length fs) s ns) × DataStands r fs' ns' s))
 
   stood : (s : RoundStep) (r : ℕ) (fs' : List Float) (ns' : List ℕ) → room_for (length fs) (length ns) ≡ true → StepFits s → Stepped s r fs' ns' → Stood s r fs' ns'
   stood s r fs' ns' room fits h = (h.0, (h.1.0, (h.1.1, stands)))
@@ -68,7 +71,7 @@ module _ (fs : List Float) (ns : List ℕ) where
           let d = s.round_data in
           let k = passed_of s.answer in
           let n = sym h.0 ∙ z in
-          let b = eq-eqb (number_of s.answer) 0 n in
+          let b = eq-eqb (verdict_number s.answer) 0 n in
           let long = room_of (length fs) (length ns) room in
           (λ i. data_at (h.1.0 i) (h.1.1 i))
           ∙ (λ i. data_at (cond (b i) (cond (room i) (data_floats d fs) fs) fs) (cond (b i) (cond (room i) (data_numbers d k ns) ns) ns))
@@ -91,68 +94,76 @@ module _ (fs : List Float) (ns : List ℕ) where
     cannot_step h =
         subst (λ (v : RoundStep). Stood v 19 fs ns) (λ i. cond (sym h i) s nothing_there) (refl, (refl, (refl, λ z. absurd (omega (arith, z)))))
 
-  -- ---- round data that was read
-  module _ (there : DataStanding) (e : there ≡ data_read_of fs ns) where
-    -- by a test of room
-    abbrev read_by : Bool → DataStanding
-    read_by b = cond b (record { stands = data_fits ns; «data» = data_at fs ns }) (record { stands = false; «data» = no_data })
+  -- ---- round data that was read: where some stands there it is that at its places
+  module _ (there : Option RoundData) (e : there ≡ data_read_of fs ns) where
+    abbrev Stands : Type 0
+    Stands = data_stands_in fs ns ≡ true
 
-    is-there : there.stands ≡ data_stands_in fs ns
+    that_is : (d : RoundData) → there ≡ Some d → Stands × (d ≡ data_at fs ns)
     unfolding data_read_of
-    is-there = ap (λ (r : DataStanding). r.stands) e ∙ by (room_for (length fs) (length ns))
+    that_is d f = by (data_stands_in fs ns) refl
       where
-        by : (b : Bool) → (read_by b).stands ≡ b && data_fits ns
-        by true = refl
-        by false = refl
+        by : (b : Bool) → data_stands_in fs ns ≡ b → Stands × (d ≡ data_at fs ns)
+        by true q =
+            let is : Some d ≡ Some (data_at fs ns) = sym f ∙ e ∙ λ i. cond (q i) (Some (data_at fs ns)) None in
+            let same : d ≡ data_at fs ns = cc in (q, same)
+        by false q = absurd (none-some d (sym (sym f ∙ e ∙ λ i. cond (q i) (Some (data_at fs ns)) None)))
 
-    pub that_is : there.stands ≡ true → there.«data» ≡ data_at fs ns
+    none_is : there ≡ None → data_stands_in fs ns ≡ false
     unfolding data_read_of
-    that_is h = ap (λ (r : DataStanding). r.«data») e ∙ λ i. (read_by ((and_both (room_for (length fs) (length ns)) (data_fits ns) (sym is-there ∙ h)).0 i)).«data»
+    none_is f = by (data_stands_in fs ns) refl
+      where
+        by : (b : Bool) → data_stands_in fs ns ≡ b → data_stands_in fs ns ≡ false
+        by true q = absurd (none-some (data_at fs ns) (sym f ∙ e ∙ λ i. cond (q i) (Some (data_at fs ns)) None))
+        by false q = q
 
-    pub data_stepped : (f : RoundData → RoundStep) (u : RoundStep) (r : ℕ) (fs' : List Float) (ns' : List ℕ)
+    pub data_stepped : (f : RoundData → RoundStep) (d : RoundData) (u : RoundStep) (r : ℕ) (fs' : List Float) (ns' : List ℕ)
         → StepFits (f (data_at fs ns))
-        → there.stands ≡ true
-        → u ≡ f there.«data»
+        → there ≡ Some d
+        → u ≡ f d
         → Stepped u r fs' ns'
         → Stood (on_data fs ns (f (data_at fs ns))) r fs' ns'
-    data_stepped f u r fs' ns' fits h g =
-        can-step (data_stands_in fs ns) (f (data_at fs ns)) u r fs' ns' (λ t. (and_both (room_for (length fs) (length ns)) (data_fits ns) t).0) fits (sym is-there ∙ h) (g ∙ ap f (that_is h))
+    data_stepped f d u r fs' ns' fits h g =
+        let at = that_is d h in
+        can-step (data_stands_in fs ns) (f (data_at fs ns)) u r fs' ns' (λ t. (and_both (room_for (length fs) (length ns)) (data_fits ns) t).0) fits at.0 (g ∙ ap f at.1)
 
-    pub data_nothing : (s : RoundStep) → there.stands ≡ false → Stood (on_data fs ns s) 19 fs ns
-    data_nothing s h = cannot_step (data_stands_in fs ns) s (sym is-there ∙ h)
+    pub data_nothing : (s : RoundStep) → there ≡ None → Stood (on_data fs ns s) 19 fs ns
+    data_nothing s h = cannot_step (data_stands_in fs ns) s (none_is h)
 
-    -- ---- what is told of it
-    module _ (amounts : List Float) (answers : List ℕ) where
-      abbrev room : Bool
-      room = leb 1 (length amounts) && leb 3 (length answers)
+  -- ---- what is told of it
+  module _ (amounts : List Float) (answers : List ℕ) where
+    abbrev room : Bool
+    room = leb 1 (length amounts) && leb 3 (length answers)
 
-      abbrev asked : Bool
-      asked = is_asked fs ns (length amounts) (length answers)
+    abbrev asked : Bool
+    asked = is_asked fs ns (length amounts) (length answers)
 
-      abbrev pub Told : ℕ → List Float → List ℕ → Type 0
-      Told r amounts' answers' = (r ≡ asked_number asked) × ((amounts' ≡ amounts_told asked (data_at fs ns) amounts) × (answers' ≡ answers_told asked (data_at fs ns) answers))
+    abbrev pub Told : ℕ → List Float → List ℕ → Type 0
+    Told r amounts' answers' = (r ≡ asked_number asked) × ((amounts' ≡ amounts_told asked (data_at fs ns) amounts) × (answers' ≡ answers_told asked (data_at fs ns) answers))
 
-      is-asked : (t : Bool) → room && there.stands ≡ t → t ≡ asked
-      is-asked t h = sym h ∙ λ i. room && is-there i
+    untold : false ≡ asked → Told 19 amounts answers
+    untold a = ((λ j. asked_number (a j)), ((λ j. amounts_told (a j) (data_at fs ns) amounts), (λ j. answers_told (a j) (data_at fs ns) answers)))
 
-      pub told-all : (xs : List Float) (bs : List ℕ) (amounts' : List Float) (answers' : List ℕ)
-          → room && there.stands ≡ true
-          → xs ≡ amounts_asked there.«data»
-          → bs ≡ answers_asked there.«data»
+    pub told_none : room ≡ false → Told 19 amounts answers
+    told_none h = untold (λ j. sym h j && data_stands_in fs ns)
+
+    module _ (there : Option RoundData) (e : there ≡ data_read_of fs ns) (h : room ≡ true) where
+      pub told-all : (d : RoundData) (xs : List Float) (bs : List ℕ) (amounts' : List Float) (answers' : List ℕ)
+          → there ≡ Some d
+          → xs ≡ amounts_asked d
+          → bs ≡ answers_asked d
           → amounts' ≡ copied nan 0 amounts 0 xs 1
           → answers' ≡ copied 0 0 answers 0 bs 3
           → Told 0 amounts' answers'
-      told-all xs bs amounts' answers' h f g k l =
-          let a = is-asked true h in
-          let d = that_is (and_both room there.stands h).1 in (
+      told-all d xs bs amounts' answers' q f g k l =
+          let at = that_is there e d q in
+          let a : true ≡ asked = λ j. sym h j && sym at.0 j in (
             (λ j. asked_number (a j)),
             (
-              k ∙ (λ j. copied nan 0 amounts 0 ((f ∙ ap amounts_asked d) j) 1) ∙ (λ j. amounts_told (a j) (data_at fs ns) amounts),
-              l ∙ (λ j. copied 0 0 answers 0 ((g ∙ ap answers_asked d) j) 3) ∙ (λ j. answers_told (a j) (data_at fs ns) answers),
+              k ∙ (λ j. copied nan 0 amounts 0 ((f ∙ ap amounts_asked at.1) j) 1) ∙ (λ j. amounts_told (a j) (data_at fs ns) amounts),
+              l ∙ (λ j. copied 0 0 answers 0 ((g ∙ ap answers_asked at.1) j) 3) ∙ (λ j. answers_told (a j) (data_at fs ns) answers),
             ),
           )
 
-      pub told_none : room && there.stands ≡ false → Told 19 amounts answers
-      told_none h =
-          let a = is-asked false h in
-          ((λ j. asked_number (a j)), ((λ j. amounts_told (a j) (data_at fs ns) amounts), (λ j. answers_told (a j) (data_at fs ns) answers)))
+      pub told_nothing : there ≡ None → Told 19 amounts answers
+      told_nothing q = untold (λ j. sym h j && sym (none_is there e q) j)

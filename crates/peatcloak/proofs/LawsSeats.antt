@@ -1,4 +1,5 @@
 -- A count of seats and a seat fit a word. Assumes nothing.
+use Rattle.std.specs.Prelude.{Option, Some, None}
 use Prim.Native.Nat.{ℕ, zero, suc, ◌≤◌}
 use native.Mathlib.Omega.{arith}
 use mathlib.Core.Path.{◌≡◌, refl, sym, ap, ◌∙◌}
@@ -7,8 +8,6 @@ use lib.Dec.{ltb}
 use borrow.Author.Tests.{ltb-true}
 use Rattle.commons.proofs.Bools.{chosen-le}
 use Rattle.seats.specs.declared.PlayerBitSet.{PlayerBitSet}
-use Rattle.seats.specs.declared.NextSeat.{NextSeat}
-use Rattle.seats.specs.declared.NextSeat.TheVariants.{At, NoMore}
 use Rattle.seats.specs.Bits.{has, count_to, next_from}
 use Rattle.seats.specs.Set.{ones_of, seat_of}
 use Rattle.layout.specs.Words.{word_of}
@@ -23,13 +22,13 @@ pub count_word : (s : ℕ) → word_of (count_to 16 s) ≡ count_to 16 s
 count_word s = omega (arith, count_most 16 s)
 
 module _ (s : PlayerBitSet) (i : ℕ) where
-  seat-low : (k : ℕ) (t : Bool) → ltb k 16 ≡ t → word_of (seat_of (cond t (At k) NoMore)) ≡ seat_of (cond t (At k) NoMore)
+  seat-low : (k : ℕ) (t : Bool) → ltb k 16 ≡ t → word_of (seat_of (cond t (Some k) None)) ≡ seat_of (cond t (Some k) None)
   seat-low k true e = omega (arith, ltb-true k 16 e)
   seat-low k false e = refl
 
-  pub next-seat : (k r : ℕ) (a : NextSeat) → a ≡ ones_of s i → a ≡ At k → r ≡ word_of k → r ≡ seat_of (ones_of s i)
+  pub next-seat : (k r : ℕ) (a : (Option ℕ)) → a ≡ ones_of s i → a ≡ Some k → r ≡ word_of k → r ≡ seat_of (ones_of s i)
   unfolding ones_of
-  next-seat k r a e f g = g ∙ ap (λ (b : NextSeat). word_of (seat_of b)) (sym f ∙ e) ∙ seat-low (next_from s.set i) (ltb (next_from s.set i) 16) refl
+  next-seat k r a e f g = g ∙ ap (λ (b : (Option ℕ)). word_of (seat_of b)) (sym f ∙ e) ∙ seat-low (next_from s.set i) (ltb (next_from s.set i) 16) refl
 
-  pub no-seat : (a : NextSeat) → a ≡ ones_of s i → a ≡ NoMore → 16 ≡ seat_of (ones_of s i)
+  pub no-seat : (a : (Option ℕ)) → a ≡ ones_of s i → a ≡ None → 16 ≡ seat_of (ones_of s i)
   no-seat a e f = ap seat_of (sym f ∙ e)

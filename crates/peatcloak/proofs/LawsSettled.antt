@@ -16,7 +16,7 @@ use mir.ValLaws.{to_z-of_z}
 use Rattle.commons.proofs.Bools.{and_both}
 use Rattle.commons.proofs.Filled.{filled_cong}
 use Rattle.commons.proofs.Order.{lt_or_le}
-use Rattle.refusals.specs.declared.Verdict.TheVariants.{Stands}
+use Rattle.std.specs.Prelude.{Ok}
 use Rattle.refusals.proofs.Rows.{stands-at-zero}
 use Rattle.table.specs.declared.GameState.{GameState}
 use Rattle.table.specs.Sound.{sound_of}
@@ -36,7 +36,7 @@ use Rattle.peatcloak.proofs.LawsCalls.{Answered, answered, same_call, nothing-do
 zero-fits : SFits w32 (pos 0)
 zero-fits = record { sfits = omega arith }
 
-module _ (t : GameState) (ranks : List ℕ) (paid : (settled_of t ranks).answer ≡ Stands) where
+module _ (t : GameState) (ranks : List ℕ) (paid : (settled_of t ranks).answer ≡ Ok tt) where
   fits : (i : ℕ) → SFits w32 (reward_of t ranks i)
   fits i = ⊎_elim (λ l. reward_fits t ranks paid i l) (λ g. subst (SFits w32) (sym (no_reward t ranks paid i g)) zero-fits) (lt_or_le i t.num_players)
 
@@ -86,11 +86,10 @@ module _ (fs : List Float) (ns : List ℕ) (ok : Bool) (e : ok ≡ stands_in fs 
           (λ i. sound_of (cond (there i) (paid_out (settled_at fs ns ranks)) (nothing_there fs ns)).table) ∙ stays-sound (table_at fs ns) (ranks_at ranks) paid)
           (subst (λ (w : Outcome). After fs ns w r fs' ns') is a)
 
-      pub settled-out : (rs' : List ℤ) → r ≡ 0 → rs' ≡ in_words u.rewards rs → Settles 0 fs' ns' rs'
+      pub settled-out : (rs' : List ℤ) → r ≡ 0 → rs' ≡ rewards_told u.rewards rs → Settles 0 fs' ns' rs'
       settled-out rs' z q =
           let n : o.number ≡ 0 = sym done.0 ∙ z in
-          let paid = stands-at-zero (settled_at fs ns ranks).answer ((λ i. (cond (sym there i) (paid_out (settled_at fs ns ranks)) (nothing_there fs ns)).number) ∙ n) in
-          let words : rs' ≡ rewards_told told rs = q ∙ (λ i. in_words (settled i).rewards rs) ∙ rewards-words (table_at fs ns) (ranks_at ranks) paid rs in
+          let words : rs' ≡ rewards_told told rs = q ∙ (λ i. rewards_told (settled i).rewards rs) in
           with-rewards 0 fs' ns' rs' (subst (λ (m : ℕ). Answered fs ns o m fs' ns') z done) (words ∙ λ i. cond (sym (eq-eqb o.number 0 n) i) (rewards_told told rs) rs)
 
       pub not-settled : r ≢ 0 → Settles r fs' ns' rs

@@ -1,4 +1,5 @@
 -- A hand written from a host's lists: what each call leaves, by whether the lists are long enough and their words in range. Assumes nothing.
+use Rattle.std.specs.Prelude.{Result}
 use Prim.Native.Nat.{ℕ, ◌≤◌, ◌<◌, ◌%◌}
 use native.Mathlib.Omega.{arith}
 use mathlib.Core.Path.{◌≡◌, refl, sym, ap, ◌∙◌}
@@ -11,14 +12,14 @@ use lib.ListN.{length}
 use Rattle.commons.proofs.Bools.{and_both}
 use Rattle.commons.proofs.Order.{lt_or_le}
 use Rattle.journal.specs.declared.block.Title.{Title}
-use Rattle.journal.specs.declared.hand.HandWritten.{HandWritten}
-use Rattle.journal.specs.declared.laying.BlockLaid.{BlockLaid}
-use Rattle.journal.specs.declared.tape.Put.{Put}
+use Rattle.journal.specs.declared.hand.NotWritten.{NotWritten}
+use Rattle.journal.specs.declared.laying.Laid.{Laid}
+use Rattle.journal.specs.declared.laying.NotLaid.{NotLaid}
 use Rattle.journal.specs.Hand.{writes_into, bytes_after}
 use Rattle.journal.specs.Lay.{lays_into, lay_after}
 use Rattle.journal.specs.Lines.{count_ok}
 use Rattle.journal.specs.Tape.{line_ok, put_line, tape_after}
-use Rattle.peatcloak.specs.Writing.{Wrote, wrote, title_fits, title_in, letter_of, put_number, put_out, put_line_on, hand_number, hand_out, write_hand_on, block_number, block_out, write_block_on}
+use Rattle.peatcloak.specs.Writing.{Wrote, wrote, title_fits, title_in, letter_of, laid_number, put_out, put_line_on, hand_number, hand_out, write_hand_on, block_out, write_block_on}
 
 -- what a call that comes to w answers and leaves
 abbrev pub Leaves : Wrote → ℕ → List ℕ → List ℕ → Type 0
@@ -61,12 +62,12 @@ letter-after used l ns tape =
     (lt_or_le l 256)
 
 module _ (tape : List ℕ) (used l : ℕ) (ns out : List ℕ) where
-  pub put-done : (b : ℕ) (p : Put) (r : ℕ) (tape' out' : List ℕ)
+  pub put-done : (b : ℕ) (p : Result ℕ NotLaid) (r : ℕ) (tape' out' : List ℕ)
       → 1 ≤ length out
       → b ≡ letter_of l
       → p ≡ put_line (length tape) used b ns
       → tape' ≡ tape_after used b ns tape
-      → r ≡ put_number p
+      → r ≡ laid_number p
       → out' ≡ put_out p out
       → Leaves (put_line_on tape used l ns out) r tape' out'
   unfolding put_line_on
@@ -74,7 +75,7 @@ module _ (tape : List ℕ) (used l : ℕ) (ns out : List ℕ) where
       let is = f ∙ (λ i. put_line (length tape) used (e i) ns) ∙ letter-put (length tape) used l ns in
       let stands = g ∙ (λ i. tape_after used (e i) ns tape) ∙ letter-after used l ns tape in
       leaves (put_line_on tape used l ns out) r tape' out'
-      ((λ i. wrote ((n ∙ ap put_number is) i) (stands i) ((o ∙ λ j. put_out (is j) out) i)) ∙ simp (le-leb 1 (length out) room))
+      ((λ i. wrote ((n ∙ ap laid_number is) i) (stands i) ((o ∙ λ j. put_out (is j) out) i)) ∙ simp (le-leb 1 (length out) room))
 
   pub put-nothing : length out < 1 → Leaves (put_line_on tape used l ns out) 19 tape out
   unfolding put_line_on
@@ -85,7 +86,7 @@ module _ (ts tape bytes out : List ℕ) (ok : Bool) (tested : ok ≡ title_fits 
   with-title : (t : Bool) → leb 1 (length out) && ok ≡ t → leb 1 (length out) && title_fits ts ≡ t
   with-title t h = (λ i. leb 1 (length out) && sym tested i) ∙ h
 
-  pub hand-done : (k : Title) (w : HandWritten) (r : ℕ) (bytes' out' : List ℕ)
+  pub hand-done : (k : Title) (w : Result ℕ NotWritten) (r : ℕ) (bytes' out' : List ℕ)
       → leb 1 (length out) && ok ≡ true
       → k ≡ title_in ts
       → w ≡ writes_into (length bytes) k tape
@@ -117,13 +118,13 @@ module _ (ts : List ℕ) (i : ℕ) (rest bytes out : List ℕ) (ok : Bool) (test
       let low : i < 256 = ltb-true i 256 (and_both (ltb i 256) ok (and_both (leb 1 (length out)) (ltb i 256 && ok) h).1).0 in
       omega arith
 
-  pub block-done : (k : Title) (j : ℕ) (b : BlockLaid) (r : ℕ) (bytes' out' : List ℕ)
+  pub block-done : (k : Title) (j : ℕ) (b : Result Laid NotLaid) (r : ℕ) (bytes' out' : List ℕ)
       → test ok ≡ true
       → k ≡ title_in ts
       → j ≡ i % 256
       → b ≡ lays_into (length bytes) k j rest
       → bytes' ≡ lay_after (lays_into (length bytes) k j rest) k j rest bytes
-      → r ≡ block_number b
+      → r ≡ laid_number b
       → out' ≡ block_out b out
       → Leaves (write_block_on ts i rest bytes out) r bytes' out'
   unfolding write_block_on
@@ -132,7 +133,7 @@ module _ (ts : List ℕ) (i : ℕ) (rest bytes out : List ℕ) (ok : Bool) (test
       let is = f ∙ (λ z. lays_into (length bytes) (e z) (index z) rest) in
       let stands = g ∙ (λ z. lay_after (lays_into (length bytes) (e z) (index z) rest) (e z) (index z) rest bytes) in
       leaves (write_block_on ts i rest bytes out) r bytes' out'
-      ((λ z. wrote ((n ∙ ap block_number is) z) (stands z) ((o ∙ λ y. block_out (is y) out) z)) ∙ simp (with-index true h))
+      ((λ z. wrote ((n ∙ ap laid_number is) z) (stands z) ((o ∙ λ y. block_out (is y) out) z)) ∙ simp (with-index true h))
 
   pub block-nothing : test ok ≡ false → Leaves (write_block_on ts i rest bytes out) 19 bytes out
   unfolding write_block_on

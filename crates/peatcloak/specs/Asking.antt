@@ -1,4 +1,7 @@
 -- R15.9: what is asked of the table in a host's lists, and told in others. Definitions only.
+use Rattle.std.specs.Prelude.{Result, Err}
+use Rattle.refusals.specs.declared.Refusal.{Refusal}
+use Rattle.refusals.specs.Rows.{verdict_number}
 use Rattle.std.specs.Prelude.{ℕ, Bool, cond, ◌&&◌, List, [], ◌∷◌, leb, eqb, set, Float}
 use Rattle.std.specs.Float.{nan}
 use Rattle.commons.specs.Filled.{copied}
@@ -6,9 +9,7 @@ use Rattle.refusals.specs.declared.Refusal.TheVariants.{Added}
 use Rattle.refusals.specs.declared.AddedError.TheVariants.{BadRecord}
 use Rattle.refusals.specs.Number.{added_number}
 use Rattle.seats.specs.Bits.{count_to}
-use Rattle.rounds.specs.declared.AmountAnswer.{AmountAnswer}
-use Rattle.rounds.specs.declared.AmountAnswer.TheVariants.{Unknown}
-use Rattle.rounds.specs.Steps.{amount_number, amount_of}
+use Rattle.rounds.specs.Steps.{amount_of}
 use Rattle.table.specs.declared.GameState.{GameState}
 use Rattle.table.specs.Pay.{actor, reward_of}
 use Rattle.table.specs.Queries.{is_capped, is_complete, at_seat, round_bet_at}
@@ -17,11 +18,11 @@ use Rattle.layout.specs.Standing.{table_at, stands_in}
 use Rattle.layout.specs.Words.{word_of, flag_of}
 
 -- ---- a player's reward, told at place 0
-abbrev pub reward_on : List Float → List ℕ → ℕ → ℕ → AmountAnswer
-reward_on fs ns i room = cond (leb 1 room && stands_in fs ns) (reward_of (table_at fs ns) i) (Unknown (Added BadRecord))
+abbrev pub reward_on : List Float → List ℕ → ℕ → ℕ → Result Float Refusal
+reward_on fs ns i room = cond (leb 1 room && stands_in fs ns) (reward_of (table_at fs ns) i) (Err (Added BadRecord))
 
-abbrev pub amount_after : AmountAnswer → List Float → List Float
-amount_after a out = cond (eqb (amount_number a) 0) (set out 0 (amount_of a)) out
+abbrev pub amount_after : Result Float Refusal → List Float → List Float
+amount_after a out = cond (eqb (verdict_number a) 0) (set out 0 (amount_of a)) out
 
 -- ---- the queries, in the order of include/peatcloak.h; i is the seat that is asked about
 abbrev pub amounts_asked : GameState → ℕ → List Float

@@ -1,16 +1,14 @@
 -- R15.10: the builder that a host's lists tell, and what a build into them comes to. Definitions only.
-use Rattle.std.specs.Prelude.{ℕ, Bool, cond, ◌&&◌, ◌||◌, not, List, [], ◌∷◌, leb, ltb, length, Float}
+use Rattle.std.specs.Prelude.{ℕ, Option, None, Bool, cond, ◌&&◌, ◌||◌, not, List, [], ◌∷◌, leb, ltb, length, Float}
+use Rattle.std.specs.Bool.{then_some}
 use Rattle.commons.specs.Tests.{all_of}
 use Rattle.amounts.specs.Amounts.{of_slice}
+use Rattle.rounds.specs.declared.RoundData.{RoundData}
 use Rattle.builder.specs.declared.BuildStep.{BuildStep}
 use Rattle.builder.specs.declared.GameStateBuilder.{GameStateBuilder}
-use Rattle.builder.specs.declared.GivenAmount.{GivenAmount}
-use Rattle.builder.specs.declared.GivenAmounts.{GivenAmounts}
-use Rattle.builder.specs.declared.GivenBoard.{GivenBoard}
-use Rattle.builder.specs.declared.GivenNumber.{GivenNumber}
 use Rattle.builder.specs.Build.{build_of}
 use Rattle.builder.specs.Cards.{cards_to}
-use Rattle.builder.specs.Setters.{builder_of}
+use Rattle.builder.specs.Setters.{Amounts, Board, builder_of}
 use Rattle.layout.specs.Outcome.{Outcome}
 use Rattle.layout.specs.Places.{FLOATS, NUMBERS, GIVEN_STACKS, GIVEN_BIG_BLIND, GIVEN_SMALL_BLIND, GIVEN_ANTE, GIVEN_DEALER, GIVEN_DEALER_IS, GIVEN_CAP, GIVEN_CAP_CAPS, GIVEN_CAP_IS, GIVEN_ROUND, GIVEN_ROUND_IS, GIVEN_BOARD, GIVEN_HANDS, GIVEN_HANDS_ARE, GIVEN_PLAYER_BET, GIVEN_ROUND_DATA, GIVEN, AMOUNT_BIG_BLIND, AMOUNT_SMALL_BLIND, AMOUNT_ANTE, AMOUNTS}
 use Rattle.layout.specs.Standing.{room_for, words_fit, data_read_of}
@@ -19,33 +17,30 @@ use Rattle.peatcloak.specs.Calls.{judged, nothing_there}
 use Rattle.peatcloak.specs.GivenAdded.{added_given, added_given_fits}
 
 -- ---- what is given
-abbrev pub amount_given : Bool → Float → GivenAmount
-amount_given given x = record { given = given; value = x }
+abbrev pub amounts_given : Bool → List Float → Option Amounts
+amounts_given given l = then_some given (record { list = of_slice l; len = length l })
 
-abbrev pub number_given : Bool → ℕ → GivenNumber
-number_given given n = record { given = given; value = n }
+abbrev pub board_given : Bool → List ℕ → Option Board
+board_given given l = then_some given (record { list = cards_to (length l) l; len = length l })
 
-abbrev pub amounts_given : Bool → List Float → GivenAmounts
-amounts_given given l = record { given = given; list = of_slice l; len = length l }
-
-abbrev pub board_given : Bool → List ℕ → GivenBoard
-board_given given l = record { given = given; list = cards_to (length l) l; len = length l }
+abbrev pub data_given : Bool → List Float → List ℕ → Option RoundData
+data_given given fs ns = cond given (data_read_of fs ns) None
 
 -- fs and ns are the table's lists, gs is `given`
 abbrev pub builder_at : List Float → List ℕ → List Float → List Float → List ℕ → List Float → List ℕ → GameStateBuilder
 builder_at fs ns stacks bets board amounts gs =
     builder_of
     (amounts_given (flag_at gs GIVEN_STACKS) stacks)
-    (amount_given (flag_at gs GIVEN_BIG_BLIND) (float_at amounts AMOUNT_BIG_BLIND))
-    (amount_given (flag_at gs GIVEN_SMALL_BLIND) (float_at amounts AMOUNT_SMALL_BLIND))
-    (amount_given (flag_at gs GIVEN_ANTE) (float_at amounts AMOUNT_ANTE))
-    (number_given (flag_at gs GIVEN_DEALER) (word_at gs GIVEN_DEALER_IS))
-    (record { given = flag_at gs GIVEN_CAP; capped = flag_at gs GIVEN_CAP_CAPS; value = byte_at gs GIVEN_CAP_IS })
-    (record { given = flag_at gs GIVEN_ROUND; value = round_at gs GIVEN_ROUND_IS })
+    (then_some (flag_at gs GIVEN_BIG_BLIND) (float_at amounts AMOUNT_BIG_BLIND))
+    (then_some (flag_at gs GIVEN_SMALL_BLIND) (float_at amounts AMOUNT_SMALL_BLIND))
+    (then_some (flag_at gs GIVEN_ANTE) (float_at amounts AMOUNT_ANTE))
+    (then_some (flag_at gs GIVEN_DEALER) (word_at gs GIVEN_DEALER_IS))
+    (then_some (flag_at gs GIVEN_CAP) (record { capped = flag_at gs GIVEN_CAP_CAPS; value = byte_at gs GIVEN_CAP_IS }))
+    (then_some (flag_at gs GIVEN_ROUND) (round_at gs GIVEN_ROUND_IS))
     (board_given (flag_at gs GIVEN_BOARD) board)
-    (number_given (flag_at gs GIVEN_HANDS) (word_at gs GIVEN_HANDS_ARE))
+    (then_some (flag_at gs GIVEN_HANDS) (word_at gs GIVEN_HANDS_ARE))
     (amounts_given (flag_at gs GIVEN_PLAYER_BET) bets)
-    (record { given = flag_at gs GIVEN_ROUND_DATA; value = (data_read_of fs ns).«data» })
+    (data_given (flag_at gs GIVEN_ROUND_DATA) fs ns)
     (added_given gs)
 
 -- ---- whether the lists tell one

@@ -1,16 +1,16 @@
 -- R15.4, R15.5: what each call on the table in a host's lists, fs and ns, comes to. Definitions only.
+use Rattle.refusals.specs.Rows.{Verdict}
 use Rattle.std.specs.Prelude.{ℕ, ◌≡◌, Bool, cond, List, [], ◌∷◌, leb, length, Float}
 use Rattle.commons.specs.Filled.{copied}
 use Rattle.floats.specs.Helpers.{zerof}
 use Rattle.refusals.specs.declared.AddedError.TheVariants.{BadRecord}
-use Rattle.refusals.specs.declared.Verdict.{Verdict}
 use Rattle.refusals.specs.Number.{added_number}
 use Rattle.refusals.specs.Rows.{verdict_number}
-use Rattle.rounds.specs.Steps.{number_of, passed_of}
+use Rattle.rounds.specs.Steps.{passed_of}
 use Rattle.table.specs.declared.GameState.{GameState}
 use Rattle.table.specs.declared.BetStep.{BetStep}
 use Rattle.table.specs.declared.TableStep.{TableStep}
-use Rattle.table.specs.Answers.{bet_number, bet_paid, bet_passed}
+use Rattle.table.specs.Answers.{bet_paid, bet_passed}
 use Rattle.table.specs.Pay.{bet_of, fold_of, award_of}
 use Rattle.table.specs.Rounds.{advance_of, complete_of}
 use Rattle.layout.specs.Outcome.{Outcome, outcome}
@@ -19,10 +19,10 @@ use Rattle.layout.specs.Standing.{table_at, stands_in}
 
 -- ---- a step, a bet, and a verdict on a build or a settlement, as an outcome
 abbrev pub stepped : TableStep → Outcome
-stepped s = outcome (number_of s.answer) s.table zerof (passed_of s.answer)
+stepped s = outcome (verdict_number s.answer) s.table zerof (passed_of s.answer)
 
 abbrev pub wagered : BetStep → Outcome
-wagered s = outcome (bet_number s.answer) s.table (bet_paid s.answer) (bet_passed s.answer)
+wagered s = outcome (verdict_number s.answer) s.table (bet_paid s.answer) (bet_passed s.answer)
 
 abbrev pub judged : Verdict → GameState → Outcome
 judged v t = outcome (verdict_number v) t zerof 0

@@ -1,7 +1,7 @@
 -- R15.11: what a settlement of the table in a host's lists comes to, and the rewards that are told. Definitions only.
-use Rattle.std.specs.Prelude.{ℕ, cond, ◌&&◌, List, leb, eqb, ℤ, pos, get_or, length, replicate, Float}
-use Rattle.std.specs.Int.{w32}
 use Rattle.std.proofs.Common.{to_z, of_z}
+use Rattle.std.specs.Int.{w32}
+use Rattle.std.specs.Prelude.{ℕ, cond, ◌&&◌, List, leb, eqb, ℤ, pos, get_or, length, replicate, Float}
 use Rattle.commons.specs.Filled.{filled, copied}
 use Rattle.settlement.specs.declared.Settled.{Settled}
 use Rattle.settlement.specs.Settlement.{settled_of}

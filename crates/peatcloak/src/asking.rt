@@ -1,6 +1,6 @@
 // What the Rust's queries answer, told in lists of the host's.
 ghost use Rattle.std.specs.Prelude.{◌≡◌, ◌&&◌, leb, length};
-ghost use Rattle.rounds.specs.Steps.{amount_number};
+ghost use Rattle.refusals.specs.Rows.{verdict_number};
 ghost use Rattle.layout.specs.Standing.{table_at};
 ghost use Rattle.peatcloak.specs.Asking.{reward_on, amount_after, amounts_asked, answers_asked, is_asked, asked_number, amounts_told, answers_told};
 
@@ -14,17 +14,18 @@ pub extern "C" fn peatcloak_player_reward(
     player_idx: u32,
     out: &mut [f32],
 ) -> u32
-    ensures value { result ≡ amount_number (reward_on floats.now numbers.now player_idx (length out.old)) }
+    ensures value { result ≡ verdict_number (reward_on floats.now numbers.now player_idx (length out.old)) }
     ensures out_after { out.new ≡ amount_after (reward_on floats.now numbers.now player_idx (length out.old)) out.old }
 {
     if (1 <= out.len()) & standing::stands(floats.len(), numbers) {
         let t = standing::table(floats, numbers);
-        let answer = t.player_reward(player_idx as usize);
-        if answer.number() == 0 {
-            out[0] = answer.amount();
-            return 0;
+        match t.player_reward(player_idx as usize) {
+            Ok(reward) => {
+                out[0] = reward;
+                return 0;
+            }
+            Err(r) => return words::word_of_byte(r.number()),
         }
-        return words::word_of_byte(answer.number());
     }
     19
 }
@@ -73,8 +74,8 @@ pub extern "C" fn peatcloak_queries(
         let t = standing::table(floats, numbers);
         let told = amounts_of(t, player_idx as usize);
         let said = answers_of(t);
-        commons::copying::copy_f32(amounts, 0, &told, 0, 6);
-        commons::copying::copy_u32(answers, 0, &said, 0, 7);
+        commons::copying::copy(amounts, 0, &told, 0, 6);
+        commons::copying::copy(answers, 0, &said, 0, 7);
         return 0;
     }
     19

@@ -7,8 +7,9 @@ ghost use Rattle.layout.specs.Standing.{table_at, sound_in};
 ghost use Rattle.peatcloak.specs.Calls.{wagered, Stands};
 ghost use Rattle.peatcloak.specs.Put.{floats_with, numbers_with, PayerFits, floats_put, numbers_put};
 
-use bets::{BetSize, Facing};
+use bets::Facing;
 use layout::{places, words};
+use refusals::Refusal;
 use rounds::paying::{Payer, Stake};
 use rounds::walking;
 use table::betting;
@@ -73,7 +74,7 @@ fn put_numbers(numbers: &mut [u32], p: Payer, passed: usize)
 }
 
 // What the payer pays of an amount. The two sizes are asked for here, one by one, since a call of `bets::validate` would not be worked into the bet.
-fn verdict_at(p: Payer, amount: f32, is_forced: bool) -> BetSize
+fn verdict_at(p: Payer, amount: f32, is_forced: bool) -> Result<f32, Refusal>
     ensures { result ≡ verdict_of p amount is_forced }
 {
     let stake = p.stake;
@@ -104,8 +105,8 @@ pub fn bet_at(floats: &mut [f32], numbers: &mut [u32], amount: f32, is_forced: b
 {
     let p = payer_at(floats, numbers);
     match verdict_at(p, amount, is_forced) {
-        BetSize::Refused(r) => words::word_of_byte(r.number()),
-        BetSize::Pays(x) => {
+        Err(r) => words::word_of_byte(r.number()),
+        Ok(x) => {
             let n = words::number_at(numbers, places::ROUND_LENGTH);
             let mut after = p.pay(x, is_forced);
             let w = walking::walk(after.owing, n, after.seat);

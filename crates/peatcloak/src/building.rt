@@ -1,15 +1,13 @@
 // A table built into the host's lists. What is given, and what not, stands in `given`; the round data, where given, at its places of the lists.
 ghost use Rattle.std.specs.Prelude.{◌≡◌, ◌&&◌, length};
 ghost use Rattle.layout.specs.Outcome.{floats_after, numbers_after};
-ghost use Rattle.peatcloak.specs.Building.{given_fit, amounts_given, board_given, builder_at, room_to_build, tells, build_on};
+ghost use Rattle.peatcloak.specs.Building.{given_fit, amounts_given, board_given, data_given, builder_at, room_to_build, tells, build_on};
 ghost use Rattle.peatcloak.specs.Calls.{Stands};
 
 use crate::{given_added, outcomes};
-use builder::{
-    GameStateBuilder, GivenAmount, GivenAmounts, GivenBoard, GivenCap, GivenData, GivenNumber,
-    GivenRound,
-};
+use builder::{Amounts, Board, Cap, GameStateBuilder, Listed};
 use layout::{places, standing, words};
+use rounds::RoundData;
 
 // Whether each word is in the range of what it stands for.
 fn given_fit(given: &[u32]) -> bool
@@ -32,29 +30,35 @@ fn given_fit(given: &[u32]) -> bool
                     & (words::is_below(given, places::GIVEN_DEALER, 2) & cap))))
 }
 
-fn amounts_of(given: bool, list: &[f32]) -> GivenAmounts
+fn amounts_of(given: bool, list: &[f32]) -> Option<Amounts>
     ensures { result ≡ amounts_given given list.now }
 {
     let l = amounts::of_slice(list);
-    GivenAmounts {
-        given,
+    given.then_some(Listed {
         list: l,
         len: list.len(),
-    }
+    })
 }
 
-fn board_of(given: bool, board: &[u8]) -> GivenBoard
+// The cards as the builder keeps them.
+fn board_of(given: bool, board: &[u8]) -> Option<Board>
     ensures { result ≡ board_given given board.now }
 {
-    let nothing = GameStateBuilder::new();
-    let b = nothing.board(board);
-    let g = b.board;
-    let list = g.list;
-    GivenBoard {
-        given,
-        list,
-        len: board.len(),
+    if given {
+        let nothing = GameStateBuilder::new();
+        return nothing.board(board).board;
     }
+    None
+}
+
+// The round data at its places, where it is given.
+fn data_of(given: bool, floats: &[f32], numbers: &[u32]) -> Option<RoundData>
+    ensures { result ≡ data_given given floats.now numbers.now }
+{
+    if given {
+        return standing::read_data(floats, numbers);
+    }
+    None
 }
 
 // The builder that the lists tell.
@@ -72,48 +76,46 @@ fn builder_of(
     let the_stacks = amounts_of(words::flag_at(given, places::GIVEN_STACKS), stacks);
     let the_bets = amounts_of(words::flag_at(given, places::GIVEN_PLAYER_BET), player_bet);
     let the_board = board_of(words::flag_at(given, places::GIVEN_BOARD), board);
-    let d = standing::read_data(floats, numbers);
-    let data = d.data;
-    let added = given_added::of(given);
-    let round = words::round_at(given, places::GIVEN_ROUND_IS);
+    let data = data_of(
+        words::flag_at(given, places::GIVEN_ROUND_DATA),
+        floats,
+        numbers,
+    );
+    let cap = Cap {
+        capped: words::flag_at(given, places::GIVEN_CAP_CAPS),
+        value: words::byte_at(given, places::GIVEN_CAP_IS),
+    };
     GameStateBuilder {
         stacks: the_stacks,
-        big_blind: GivenAmount {
-            given: words::flag_at(given, places::GIVEN_BIG_BLIND),
-            value: words::float_at(amounts, places::AMOUNT_BIG_BLIND),
-        },
-        small_blind: GivenAmount {
-            given: words::flag_at(given, places::GIVEN_SMALL_BLIND),
-            value: words::float_at(amounts, places::AMOUNT_SMALL_BLIND),
-        },
-        ante: GivenAmount {
-            given: words::flag_at(given, places::GIVEN_ANTE),
-            value: words::float_at(amounts, places::AMOUNT_ANTE),
-        },
-        dealer_idx: GivenNumber {
-            given: words::flag_at(given, places::GIVEN_DEALER),
-            value: words::number_at(given, places::GIVEN_DEALER_IS),
-        },
-        max_raises_per_round: GivenCap {
-            given: words::flag_at(given, places::GIVEN_CAP),
-            capped: words::flag_at(given, places::GIVEN_CAP_CAPS),
-            value: words::byte_at(given, places::GIVEN_CAP_IS),
-        },
-        round: GivenRound {
-            given: words::flag_at(given, places::GIVEN_ROUND),
-            value: round,
-        },
+        big_blind: words::flag_at(given, places::GIVEN_BIG_BLIND).then_some(words::float_at(
+            amounts,
+            places::AMOUNT_BIG_BLIND,
+        )),
+        small_blind: words::flag_at(given, places::GIVEN_SMALL_BLIND).then_some(words::float_at(
+            amounts,
+            places::AMOUNT_SMALL_BLIND,
+        )),
+        ante: words::flag_at(given, places::GIVEN_ANTE).then_some(words::float_at(
+            amounts,
+            places::AMOUNT_ANTE,
+        )),
+        dealer_idx: words::flag_at(given, places::GIVEN_DEALER).then_some(words::number_at(
+            given,
+            places::GIVEN_DEALER_IS,
+        )),
+        max_raises_per_round: words::flag_at(given, places::GIVEN_CAP).then_some(cap),
+        round: words::flag_at(given, places::GIVEN_ROUND).then_some(words::round_at(
+            given,
+            places::GIVEN_ROUND_IS,
+        )),
         board: the_board,
-        hands: GivenNumber {
-            given: words::flag_at(given, places::GIVEN_HANDS),
-            value: words::number_at(given, places::GIVEN_HANDS_ARE),
-        },
+        hands: words::flag_at(given, places::GIVEN_HANDS).then_some(words::number_at(
+            given,
+            places::GIVEN_HANDS_ARE,
+        )),
         player_bet: the_bets,
-        round_data: GivenData {
-            given: words::flag_at(given, places::GIVEN_ROUND_DATA),
-            value: data,
-        },
-        added,
+        round_data: data,
+        added: given_added::of(given),
     }
 }
 

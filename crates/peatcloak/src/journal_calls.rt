@@ -1,27 +1,35 @@
 // A hand written for the journal, from lists of the host's: line by line onto a tape of entries, then the tape in whole or block by block into bytes.
-ghost use Rattle.std.specs.Prelude.{◌≡◌};
-ghost use Rattle.peatcloak.specs.Writing.{put_number, put_out, put_line_on, hand_number, hand_out, write_hand_on, block_number, block_out, write_block_on};
+ghost use Rattle.std.specs.Prelude.{◌≡◌, Err};
+ghost use Rattle.peatcloak.specs.Writing.{not_laid, laid_number, put_out, put_line_on, hand_number, hand_out, write_hand_on, follows, block_out, write_block_on};
 
 use crate::journal_words;
-use journal::hand::HandWritten;
-use journal::laying::BlockLaid;
-use journal::tape::Put;
+use journal::hand::NotWritten;
+use journal::laying::{Laid, NotLaid};
 use journal::{hand, laying, tape};
 use layout::words;
 
+// Why nothing is laid, be it a line or a block.
+fn not_laid(e: NotLaid) -> u32
+    ensures { result ≡ not_laid e }
+{
+    match e {
+        NotLaid::Denied(refusal) => journal_words::refused(refusal),
+        NotLaid::NoRoom => 19,
+    }
+}
+
 // ---- a line
 
-fn tell_put(out: &mut [u32], p: Put) -> u32
-    ensures value { result ≡ put_number p }
+fn tell_put(out: &mut [u32], p: Result<usize, NotLaid>) -> u32
+    ensures value { result ≡ laid_number p }
     ensures out_after { out.new ≡ put_out p out.old }
 {
     match p {
-        Put::Denied(e) => journal_words::refused(e),
-        Put::NoRoom => 19,
-        Put::Laid(used) => {
+        Ok(used) => {
             journal_words::tell(out, words::word_of(used));
             0
         }
+        Err(e) => not_laid(e),
     }
 }
 
@@ -48,20 +56,29 @@ pub extern "C" fn peatcloak_put_line(
 // ---- a hand in whole
 
 // The blocks are told where there is too little room for them too.
-fn tell_hand(out: &mut [u32], w: HandWritten) -> u32
+fn tell_unwritten(out: &mut [u32], e: NotWritten) -> u32
+    ensures value { result ≡ hand_number (Err e) }
+    ensures out_after { out.new ≡ hand_out (Err e) out.old }
+{
+    match e {
+        NotWritten::Denied(refusal) => journal_words::refused(refusal),
+        NotWritten::NoRoom(blocks) => {
+            journal_words::tell(out, words::word_of(blocks));
+            19
+        }
+    }
+}
+
+fn tell_hand(out: &mut [u32], w: Result<usize, NotWritten>) -> u32
     ensures value { result ≡ hand_number w }
     ensures out_after { out.new ≡ hand_out w out.old }
 {
     match w {
-        HandWritten::Denied(e) => journal_words::refused(e),
-        HandWritten::NoRoom(blocks) => {
-            journal_words::tell(out, words::word_of(blocks));
-            19
-        }
-        HandWritten::Blocks(blocks) => {
+        Ok(blocks) => {
             journal_words::tell(out, words::word_of(blocks));
             0
         }
+        Err(e) => tell_unwritten(out, e),
     }
 }
 
@@ -87,21 +104,26 @@ pub extern "C" fn peatcloak_write_hand(
 
 // ---- a block
 
-fn tell_block(out: &mut [u32], b: BlockLaid) -> u32
-    ensures value { result ≡ block_number b }
+// Whether another must follow.
+fn follows(laid: Laid) -> u32
+    ensures { result ≡ follows laid }
+{
+    match laid {
+        Laid::More => 1,
+        Laid::Last => 0,
+    }
+}
+
+fn tell_block(out: &mut [u32], b: Result<Laid, NotLaid>) -> u32
+    ensures value { result ≡ laid_number b }
     ensures out_after { out.new ≡ block_out b out.old }
 {
     match b {
-        BlockLaid::Denied(e) => journal_words::refused(e),
-        BlockLaid::NoRoom => 19,
-        BlockLaid::More => {
-            journal_words::tell(out, 1);
+        Ok(laid) => {
+            journal_words::tell(out, follows(laid));
             0
         }
-        BlockLaid::Last => {
-            journal_words::tell(out, 0);
-            0
-        }
+        Err(e) => not_laid(e),
     }
 }
 

@@ -1,24 +1,25 @@
 // A hand of the journal read from bytes of the host's, and told in its lists.
 ghost use Rattle.std.specs.Prelude.{◌≡◌};
-ghost use Rattle.peatcloak.specs.Reading.{block_read_number, block_read_told, read_block_on, hand_read_number, hand_read_told, read_hand_on, line_at_on};
+ghost use Rattle.peatcloak.specs.Reading.{read_number, block_read_told, read_block_on, hand_read_told, read_hand_on, line_at_on};
 
 use crate::journal_words;
-use journal::block::BlockRead;
-use journal::hand::HandRead;
+use journal::block::Head;
+use journal::hand::HandHead;
 use journal::{block, hand, reading};
 use layout::words;
+use refusals::JournalError;
 
 // ---- a block
 
-fn tell_block(head: &mut [u32], read: BlockRead) -> u32
-    ensures value { result ≡ block_read_number read }
+fn tell_block(head: &mut [u32], read: Result<Head, JournalError>) -> u32
+    ensures value { result ≡ read_number read }
     ensures head_after { head.new ≡ block_read_told read head.old }
 {
     match read {
-        BlockRead::Refused(e) => journal_words::refused(e),
-        BlockRead::Block(h) => {
+        Err(e) => journal_words::refused(e),
+        Ok(h) => {
             let list = journal_words::block_words(h);
-            commons::copying::copy_u32(head, 0, &list, 0, 7);
+            commons::copying::copy(head, 0, &list, 0, 7);
             0
         }
     }
@@ -39,15 +40,15 @@ pub extern "C" fn peatcloak_read_block(bytes: &[u8], head: &mut [u32]) -> u32
 
 // ---- a hand
 
-fn tell_hand(head: &mut [u32], read: HandRead) -> u32
-    ensures value { result ≡ hand_read_number read }
+fn tell_hand(head: &mut [u32], read: Result<HandHead, JournalError>) -> u32
+    ensures value { result ≡ read_number read }
     ensures head_after { head.new ≡ hand_read_told read head.old }
 {
     match read {
-        HandRead::Refused(e) => journal_words::refused(e),
-        HandRead::Hand(h) => {
+        Err(e) => journal_words::refused(e),
+        Ok(h) => {
             let list = journal_words::hand_words(h);
-            commons::copying::copy_u32(head, 0, &list, 0, 6);
+            commons::copying::copy(head, 0, &list, 0, 6);
             0
         }
     }
@@ -89,8 +90,8 @@ pub extern "C" fn peatcloak_line_at(
             words::word_of(w.count),
             words::word_of(read.next),
         ];
-        commons::copying::copy_u32(line, 0, &told, 0, 3);
-        commons::copying::copy_u16(numbers, 0, &list, 0, 20);
+        commons::copying::copy(line, 0, &told, 0, 3);
+        commons::copying::copy(numbers, 0, &list, 0, 20);
         return 0;
     }
     19

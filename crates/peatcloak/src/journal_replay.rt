@@ -7,6 +7,7 @@ ghost use Rattle.peatcloak.specs.Replaying.{lines_told, replay_hand_on, replay_o
 use crate::journal_words;
 use layout::{outcome, places, words};
 use recorder::replaying;
+use table::GameState;
 
 // How many lines were played, where the bytes are a hand.
 fn tell_lines(out: &mut [u32], number: u8, lines: usize)
@@ -34,10 +35,10 @@ pub extern "C" fn peatcloak_replay_hand(
     let room = (places::FLOATS <= floats.len()) & (places::NUMBERS <= numbers.len());
     if (1 <= out.len()) & room {
         let played = replaying::replay_hand(bytes);
-        let state = played.state;
-        let table = state.table;
-        tell_lines(out, played.number, played.lines);
-        return outcome::lay(floats, numbers, played.number, table, 0.0, 0);
+        let number = played.number();
+        let table = played.state.table.unwrap_or(GameState::none());
+        tell_lines(out, number, played.lines);
+        return outcome::lay(floats, numbers, number, table, 0.0, 0);
     }
     19
 }

@@ -1,5 +1,6 @@
 // The boundary for C and Rust. A table is two lists of the host's, whose places `layout` names. Each call answers 0 or document 01's number, and 19 where no
 // table stands in the lists; a refusal writes nothing, but where it is said. A set of seats and round data cross alone too, and a hand of the journal as bytes.
+// 19 and the like stand in the bodies as numbers where a call answers C: the header names each.
 #![tactic(auto)]
 
 pub mod asking;
@@ -38,7 +39,7 @@ pub extern "C" fn peatcloak_version(out: &mut [u32]) -> u32
             words::word_of(places::FLOATS),
             words::word_of(places::NUMBERS),
         ];
-        commons::copying::copy_u32(out, 0, &list, 0, 4);
+        commons::copying::copy(out, 0, &list, 0, 4);
         return 0;
     }
     19

@@ -1,4 +1,5 @@
 // The next round in place: both rounds, the places of the round data and the two answers are written, and no other.
+// It works on words: in the host's list the round stands as its number, and the next one is that number and 1.
 ghost use Rattle.std.specs.Prelude.{◌≡◌, true, ◌+◌, ◌≤◌, ◌<◌, length, set};
 ghost use Rattle.commons.specs.Filled.{laid};
 ghost use Rattle.floats.specs.Helpers.{zerof};
@@ -19,9 +20,7 @@ fn clear_bets(floats: &mut [f32], n: usize)
     requires n_bound { n ≤ 16 }
     ensures { floats.new ≡ laid ROUND_BETS n floats.old (λ k. zerof) }
 {
-    for k in 0..n {
-        floats[places::ROUND_BETS + k] = 0.0;
-    }
+    floats[places::ROUND_BETS..places::ROUND_BETS + n].fill(0.0);
 }
 
 // What a new round of n seats changes of the floats.

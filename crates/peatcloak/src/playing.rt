@@ -4,12 +4,14 @@ ghost use Rattle.console.specs.Play.{at_start};
 ghost use Rattle.console.specs.Parts.{script_part, over};
 ghost use Rattle.layout.specs.Outcome.{floats_after, numbers_after};
 ghost use Rattle.peatcloak.specs.Calls.{Stands};
-ghost use Rattle.peatcloak.specs.Playing.{play_table_on};
+ghost use Rattle.peatcloak.specs.Playing.{play_rows, play_table_on};
+ghost use Rattle.refusals.specs.Rows.{judge};
 
 use crate::outcomes;
 use console::{ending, play};
 use layout::places;
-use refusals::{AddedError, Refusal, Verdict, give_if};
+use refusals::{AddedError, Refusal, refuse_if};
+use table::GameState;
 
 // What it prints from its start on, as many lines as the buffer is sure to hold: the bytes that were laid.
 #[unsafe(no_mangle)]
@@ -19,6 +21,19 @@ pub extern "C" fn peatcloak_play(script: &[u8], out: &mut [u8]) -> usize
 {
     let p = play::play_script(script, 0, play::start(), out);
     p.len
+}
+
+// The refusals of lists and a script of these lengths, from the first row to the last: whether a table stands at its end comes last.
+fn verdict(floats: usize, numbers: usize, script: usize, stands: bool) -> Result<(), Refusal>
+    ensures { result ≡ judge (play_rows floats numbers script stands) }
+{
+    let room = (places::FLOATS <= floats) & (places::NUMBERS <= numbers);
+    refuse_if(!room, Refusal::Added(AddedError::BadRecord))?;
+    refuse_if(
+        !(script <= 65536),
+        Refusal::Added(AddedError::ScriptTooLong),
+    )?;
+    refuse_if(!stands, Refusal::Added(AddedError::BadLine))
 }
 
 // The table that it leads to, laid into the lists: 19, 26, and 25 where no table stands at its end.
@@ -33,19 +48,7 @@ pub extern "C" fn peatcloak_play_table(
     ensures numbers_after { numbers.new ≡ numbers_after (length floats.old) (play_table_on floats.old numbers.old script.now) numbers.old }
     ensures stands { Stands result floats.new numbers.new (play_table_on floats.old numbers.old script.now) }
 {
-    let s = ending::end_of(script);
-    let table = s.table;
-    let room = (places::FLOATS <= floats.len()) & (places::NUMBERS <= numbers.len());
-    let v25 = give_if(
-        !s.stands,
-        Refusal::Added(AddedError::BadLine),
-        Verdict::Stands,
-    );
-    let v26 = give_if(
-        !(script.len() <= 65536),
-        Refusal::Added(AddedError::ScriptTooLong),
-        v25,
-    );
-    let verdict = give_if(!room, Refusal::Added(AddedError::BadRecord), v26);
-    outcomes::lay_verdict(floats, numbers, verdict, table)
+    let table = ending::end_of(script).table;
+    let verdict = verdict(floats.len(), numbers.len(), script.len(), table.is_some());
+    outcomes::lay_verdict(floats, numbers, verdict, table.unwrap_or(GameState::none()))
 }

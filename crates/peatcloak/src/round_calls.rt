@@ -1,11 +1,12 @@
 // Round data alone, at the round's places of the host's two lists. No other place is looked at, and none is written but that of the seats passed.
 ghost use Rattle.std.specs.Prelude.{◌≡◌, not, eqb, length};
-ghost use Rattle.rounds.specs.Steps.{number_of};
+ghost use Rattle.refusals.specs.Rows.{verdict_number};
 ghost use Rattle.layout.specs.Standing.{room_for, data_at};
 ghost use Rattle.peatcloak.specs.Asking.{asked_number};
 ghost use Rattle.peatcloak.specs.Rounds.{new_on, with_bets_on, advance_on, bet_on, data_floats_after, data_numbers_after, DataStands, amounts_asked, answers_asked, is_asked, amounts_told, answers_told};
 
 use layout::{laying, places, standing, words};
+use refusals::verdict_number;
 use rounds::{RoundData, RoundStep};
 use seats::PlayerBitSet;
 
@@ -18,17 +19,18 @@ fn is_room(floats: &[f32], numbers: &[u32]) -> bool
 
 // What a step gives, laid where it is accepted: its number.
 fn lay_round(floats: &mut [f32], numbers: &mut [u32], s: RoundStep) -> u32
-    ensures value { result ≡ number_of s.answer }
+    ensures value { result ≡ verdict_number s.answer }
     ensures floats_after { floats.new ≡ data_floats_after (length numbers.old) s floats.old }
     ensures numbers_after { numbers.new ≡ data_numbers_after (length floats.old) s numbers.old }
 {
-    let answer = s.answer;
-    if answer.number() == 0 {
-        let d = s.round_data;
-        laying::lay_data(floats, numbers, d, answer.passed());
-        return 0;
+    let d = s.round_data;
+    match s.answer {
+        Ok(passed) => {
+            laying::lay_data(floats, numbers, d, passed);
+            0
+        }
+        Err(r) => words::word_of_byte(r.number()),
     }
-    words::word_of_byte(answer.number())
 }
 
 // It asks only for room: what stands at the round's places is written over, and is not looked at.
@@ -41,7 +43,7 @@ pub extern "C" fn peatcloak_round_new(
     active: u16,
     to_act: u32,
 ) -> u32
-    ensures value { result ≡ number_of (new_on (length floats.old) (length numbers.old) num_players min_raise active to_act).answer }
+    ensures value { result ≡ verdict_number (new_on (length floats.old) (length numbers.old) num_players min_raise active to_act).answer }
     ensures floats_after { floats.new ≡ data_floats_after (length numbers.old) (new_on (length floats.old) (length numbers.old) num_players min_raise active to_act) floats.old }
     ensures numbers_after { numbers.new ≡ data_numbers_after (length floats.old) (new_on (length floats.old) (length numbers.old) num_players min_raise active to_act) numbers.old }
     ensures stands { DataStands result floats.new numbers.new (new_on (length floats.old) (length numbers.old) num_players min_raise active to_act) }
@@ -64,7 +66,7 @@ pub extern "C" fn peatcloak_round_new_with_bets(
     to_act: u32,
     bets: &[f32],
 ) -> u32
-    ensures value { result ≡ number_of (with_bets_on (length floats.old) (length numbers.old) min_raise active to_act bets.now).answer }
+    ensures value { result ≡ verdict_number (with_bets_on (length floats.old) (length numbers.old) min_raise active to_act bets.now).answer }
     ensures floats_after { floats.new ≡ data_floats_after (length numbers.old) (with_bets_on (length floats.old) (length numbers.old) min_raise active to_act bets.now) floats.old }
     ensures numbers_after { numbers.new ≡ data_numbers_after (length floats.old) (with_bets_on (length floats.old) (length numbers.old) min_raise active to_act bets.now) numbers.old }
     ensures stands { DataStands result floats.new numbers.new (with_bets_on (length floats.old) (length numbers.old) min_raise active to_act bets.now) }
@@ -79,16 +81,15 @@ pub extern "C" fn peatcloak_round_new_with_bets(
 
 #[unsafe(no_mangle)]
 pub extern "C" fn peatcloak_round_advance_action(floats: &mut [f32], numbers: &mut [u32]) -> u32
-    ensures value { result ≡ number_of (advance_on floats.old numbers.old).answer }
+    ensures value { result ≡ verdict_number (advance_on floats.old numbers.old).answer }
     ensures floats_after { floats.new ≡ data_floats_after (length numbers.old) (advance_on floats.old numbers.old) floats.old }
     ensures numbers_after { numbers.new ≡ data_numbers_after (length floats.old) (advance_on floats.old numbers.old) numbers.old }
     ensures stands { DataStands result floats.new numbers.new (advance_on floats.old numbers.old) }
 {
-    let there = standing::read_data(floats, numbers);
-    if there.stands {
-        return lay_round(floats, numbers, there.data.advance_action());
+    match standing::read_data(floats, numbers) {
+        Some(d) => lay_round(floats, numbers, d.advance_action()),
+        None => 19,
     }
-    19
 }
 
 // is_forced: 0 no, else yes.
@@ -99,17 +100,16 @@ pub extern "C" fn peatcloak_round_do_bet(
     extra_amount: f32,
     is_forced: u32,
 ) -> u32
-    ensures value { result ≡ number_of (bet_on floats.old numbers.old extra_amount (not (eqb is_forced 0))).answer }
+    ensures value { result ≡ verdict_number (bet_on floats.old numbers.old extra_amount (not (eqb is_forced 0))).answer }
     ensures floats_after { floats.new ≡ data_floats_after (length numbers.old) (bet_on floats.old numbers.old extra_amount (not (eqb is_forced 0))) floats.old }
     ensures numbers_after { numbers.new ≡ data_numbers_after (length floats.old) (bet_on floats.old numbers.old extra_amount (not (eqb is_forced 0))) numbers.old }
     ensures stands { DataStands result floats.new numbers.new (bet_on floats.old numbers.old extra_amount (not (eqb is_forced 0))) }
 {
     let forced = !(is_forced == 0);
-    let there = standing::read_data(floats, numbers);
-    if there.stands {
-        return lay_round(floats, numbers, there.data.do_bet(extra_amount, forced));
+    match standing::read_data(floats, numbers) {
+        Some(d) => lay_round(floats, numbers, d.do_bet(extra_amount, forced)),
+        None => 19,
     }
-    19
 }
 
 // What the seat to act has put in.
@@ -117,7 +117,7 @@ fn amounts_of(d: RoundData) -> [f32; 1]
     ensures { result ≡ amounts_asked d }
 {
     let bet = d.current_player_bet();
-    [bet.amount()]
+    [bet.unwrap_or(0.0)]
 }
 
 // How many owe, whether nobody bet but those who had to, and the refusal number of the amount.
@@ -128,7 +128,7 @@ fn answers_of(d: RoundData) -> [u32; 3]
     [
         words::word_of(d.num_players_need_action()),
         words::word_of_flag(d.is_action_unopened()),
-        words::word_of_byte(bet.number()),
+        words::word_of_byte(verdict_number(bet)),
     ]
 }
 
@@ -143,14 +143,14 @@ pub extern "C" fn peatcloak_round_queries(
     ensures amounts_after { amounts.new ≡ amounts_told (is_asked floats.now numbers.now (length amounts.old) (length answers.old)) (data_at floats.now numbers.now) amounts.old }
     ensures answers_after { answers.new ≡ answers_told (is_asked floats.now numbers.now (length amounts.old) (length answers.old)) (data_at floats.now numbers.now) answers.old }
 {
-    let there = standing::read_data(floats, numbers);
-    if ((1 <= amounts.len()) & (3 <= answers.len())) & there.stands {
-        let d = there.data;
-        let told = amounts_of(d);
-        let said = answers_of(d);
-        commons::copying::copy_f32(amounts, 0, &told, 0, 1);
-        commons::copying::copy_u32(answers, 0, &said, 0, 3);
-        return 0;
+    if (1 <= amounts.len()) & (3 <= answers.len()) {
+        if let Some(d) = standing::read_data(floats, numbers) {
+            let told = amounts_of(d);
+            let said = answers_of(d);
+            commons::copying::copy(amounts, 0, &told, 0, 1);
+            commons::copying::copy(answers, 0, &said, 0, 3);
+            return 0;
+        }
     }
     19
 }

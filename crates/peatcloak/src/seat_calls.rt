@@ -7,7 +7,7 @@ ghost use Rattle.layout.specs.Words.{flag_of};
 ghost use Rattle.peatcloak.specs.Seats.{over, set_word, seat_word};
 
 use layout::words;
-use seats::{NextSeat, PlayerBitSet, SeatAnswer, SeatStep, SetAnswer, SetStep};
+use seats::{PlayerBitSet, SeatStep, SetStep};
 
 // The refusal number over the answer.
 fn word_over(low: u16, number: u8) -> u32
@@ -21,8 +21,8 @@ fn set_word(s: SetStep) -> u32
 {
     let answer = s.answer;
     match answer {
-        SetAnswer::Made => word_over(s.set.set, 0),
-        SetAnswer::Refused(r) => word_over(s.set.set, r.number()),
+        Ok(()) => word_over(s.set.set, 0),
+        Err(r) => word_over(s.set.set, r.number()),
     }
 }
 
@@ -31,8 +31,8 @@ fn seat_word(s: SeatStep) -> u32
 {
     let answer = s.answer;
     match answer {
-        SeatAnswer::Is(is) => words::word_of_flag(is),
-        SeatAnswer::NoSeat(r) => word_over(0, r.number()),
+        Ok(is) => words::word_of_flag(is),
+        Err(r) => word_over(0, r.number()),
     }
 }
 
@@ -90,8 +90,8 @@ pub extern "C" fn peatcloak_seats_next(set: u16, from: u32) -> u32
 {
     let s = PlayerBitSet { set };
     match s.ones(from as usize) {
-        NextSeat::At(i) => words::word_of(i),
-        NextSeat::NoMore => 16,
+        Some(i) => words::word_of(i),
+        None => 16,
     }
 }
 

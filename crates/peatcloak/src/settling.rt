@@ -2,7 +2,7 @@
 ghost use Rattle.std.specs.Prelude.{◌≡◌, ◌≤◌, length};
 ghost use Rattle.layout.specs.Outcome.{floats_after, numbers_after};
 ghost use Rattle.peatcloak.specs.Calls.{Stands};
-ghost use Rattle.peatcloak.specs.Settling.{ranks_at, settle_on, settled_at, in_words, rewards_after};
+ghost use Rattle.peatcloak.specs.Settling.{ranks_at, settle_on, settled_at, rewards_told, rewards_after};
 
 use crate::outcomes;
 use layout::standing;
@@ -11,17 +11,15 @@ fn ranks_of(ranks: &[u16]) -> [u16; 16]
     ensures { result ≡ ranks_at ranks.now }
 {
     let mut list = [0u16; 16];
-    commons::copying::copy_u16(&mut list, 0, ranks, 0, 16);
+    commons::copying::copy(&mut list, 0, ranks, 0, 16);
     list
 }
 
 fn lay_rewards(rewards: &mut [i32], list: [i32; 16])
     requires { 16 ≤ length rewards.old }
-    ensures { rewards.new ≡ in_words list rewards.old }
+    ensures { rewards.new ≡ rewards_told list rewards.old }
 {
-    for i in 0..16 {
-        rewards[i] = list[i];
-    }
+    commons::copying::copy(rewards, 0, &list, 0, 16);
 }
 
 #[unsafe(no_mangle)]

@@ -13,6 +13,7 @@ use std::io::Read;
 fn read_full(input: &mut impl Read, room: &mut [u8]) -> usize
     ensures { result ≤ length room.new }
 {
+    // A read may give less than is asked, but a byte at least before the end: no more turns are needed than bytes.
     let mut bytes: usize = 0;
     for _ in 0..room.len() {
         if room.len() <= bytes {
@@ -33,19 +34,18 @@ fn play_part(rt: &impl Print, script: &[u8], at: usize, c: Console) -> Played
 {
     let mut out = [0u8; 4096];
     let p = play::play_script(script, at, c, &mut out);
-    let n = p.len;
-    let _ = rt.write_all(&out[..n]);
+    let _ = rt.write_all(&out[..p.len]);
     p
 }
 
 fn play_all(rt: &impl Print, script: &[u8]) {
+    // By hand: the place moves by what was played.
     let mut at: usize = 0;
     let mut c = play::start();
     while at < script.len() {
         let p = play_part(rt, script, at, c);
         at = p.at;
-        let next = p.console;
-        c = next;
+        c = p.console;
     }
 }
 

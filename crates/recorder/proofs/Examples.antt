@@ -39,10 +39,14 @@ use Rattle.console.specs.Act.{needing, ranked, act_of}
 use Rattle.console.specs.Play.{at_start}
 use Rattle.journal.specs.Hand.{hand_ok, reads}
 use Rattle.journal.specs.Lines.{tape_of}
+use Rattle.std.specs.Prelude.{Err}
+use Rattle.refusals.specs.declared.Refusal.TheVariants.{Journal}
+use Rattle.refusals.specs.declared.JournalError.TheVariants.{BadJournal}
+use Rattle.recorder.proofs.Asking.{found, key_in, entries_in, whole_in}
 use Rattle.recorder.specs.Entries.{held, is_held}
 use Rattle.recorder.specs.Hands.{opens, goes_in, lines_until, state_until, Recorded, hands_of, script_hands}
 use Rattle.recorder.specs.Taking.{opens_at, taken, tape_taken}
-use Rattle.recorder.specs.Replay.{replayed, played_on, fresh_with, replay_of, replay_read, replay_bytes}
+use Rattle.recorder.specs.Replay.{replay_number, replayed, played_on, fresh_with, replay_of, replay_read, replay_bytes}
 
 -- a hand by its key and its lines
 abbrev pub Hand : Type 0
@@ -108,13 +112,13 @@ abbrev pub hands_said : String × List Hand → List (HandKey × List Words)
 hands_said r = map (λ (h : Hand). (h.0, typed h.1)) r.1
 
 abbrev pub taken_in : (String × ℕ) × Answer → Answer
-taken_in r = let t = taken (bytes r.0.0) 0 at_start.state r.0.1 in ((t.found, t.key), ((t.entries, t.is_whole), t.at))
+taken_in r = let t = taken (bytes r.0.0) 0 at_start.state r.0.1 in ((found t, key_in t.hand), ((entries_in t.hand, whole_in t.hand), t.at))
 
 abbrev pub answer_said : (String × ℕ) × Answer → Answer
 answer_said r = r.1
 
 abbrev pub played_again : List String × (ℕ × ℕ) → ℕ × ℕ
-played_again r = let q = replay_of (key_of 3 2026 7) (typed r.0) in (q.number, q.lines)
+played_again r = let q = replay_of (key_of 3 2026 7) (typed r.0) in (replay_number q, q.lines)
 
 abbrev pub end_said : List String × (ℕ × ℕ) → ℕ × ℕ
 end_said r = r.1
@@ -130,6 +134,6 @@ pub right :
     × (tape_in 7 ≡ 116 ∷ 0 ∷ 655360 ∷ 327680 ∷ 0 ∷ 589824 ∷ 589824 ∷ [])
     × (tape_in 2 ≡ 1 ∷ 1 ∷ [])
     × (map played_again hands ≡ map end_said hands)
-    × (replay_bytes [] ≡ replayed 27 0 (fresh_with no_key))
+    × (replay_bytes [] ≡ replayed (Err (Journal BadJournal)) 0 (fresh_with no_key))
 unfolding sum_to all_to is_whole chips_in all_whole sum_chips most_to any_to ahead share_of contends is_level top level_below is_layer pot_of put_in holds reached best wins share award is_payable awards_of counted_of after_dealer any_won in_chips raised raised_all rewards_of count_to to_unsigned of_int eq ne lt le add sub mul div is_nan round units odd size climb span max_of min_of sign_of abs_of tol_of near_zero filled sum_of above_of any_invalid has up_to with without seats_where first_from distance walk_of small_blind_of data_for built_of card_rows seen_to owing_after bet_of fold_of first_turn advance_of complete_of cards_ok board_ok good_added sound_frame asked all_digits unpadded value_after is_number pieces lines all_numbers firsts lettered words_of amounts_from opening_of needing ranked act_of settled_of at_start opens goes_in lines_until state_until hands_of opens_at before place_of read_at tape_of held is_held taken tape_taken played_on hand_ok reads replay_read replay_bytes
 right = (refl, refl, refl, refl, refl, refl, refl)

@@ -14,6 +14,7 @@ use Rattle.script.specs.Read.{line_from}
 use Rattle.script.proofs.LawsRead.{lines_from}
 use Rattle.console.specs.declared.act.State.{State}
 use Rattle.console.specs.declared.act.Act.{Act}
+use Rattle.console.specs.Act.{act_number}
 use Rattle.recorder.specs.declared.recording.Filled.{Filled}
 use Rattle.recorder.specs.Hands.{goes_in, lines_until}
 use Rattle.recorder.specs.Laying.{Taped, taped, laid_line, laid_all}
@@ -26,7 +27,7 @@ lines_left script at s = lines_until s (words_from script at)
 
 -- whether a line goes in, by its letter and its answer
 abbrev pub going : Read → Act → Bool
-going read act = not (is read.words.letter "k") && eqb act.number 0
+going read act = not (is read.words.letter "k") && eqb (act_number act) 0
 
 -- ---- one line
 laid_one : (g : Bool) (w : Words) (ws : List Words) (x : Taped) → laid_all x (cond g (w ∷ ws) ws) ≡ laid_all (laid_line g w x) ws

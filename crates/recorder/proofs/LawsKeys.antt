@@ -32,7 +32,7 @@ module _ (w : Words) (s : State) (p : Proper w) (f : Fitting s.key) where
   typed-fits = record { code = omega (arith, place-small p 0); year = omega (arith, place-small p 1); hand = omega (arith, place-small p 2) }
 
   by : (o g : Bool) → opens w s ≡ o → goes_in w s ≡ g → Fitting (after w s).key
-  by true g eo eg = let q = opens_so w s eo in subst Fitting (sym (table_takes_key w s q.0 q.1).1) none-fits
+  by true g eo eg = let q = opens_so w s eo in subst Fitting (sym (table_takes_key w s q.0 q.1).3) none-fits
   by false true eo eg = let q = goes_so w s eg in subst Fitting (sym (others_leave_keys w s (λ t. table-refused w s eo t q.1) q.0).1) f
   by false false eo eg =
       ⊎_elim (λ z. subst Fitting (sym (ap (λ (a : Act). a.state.key) (key-is-put w s (left_so w s eg (eqb-true _ _ z))))) typed-fits)

@@ -9,7 +9,8 @@ use lib.ListN.{length, take}
 use lib.Seq.{take_all, length-take-le}
 use Rattle.commons.proofs.Order.{lt_or_le}
 use Rattle.script.specs.declared.line.Words.{Words}
-use Rattle.journal.specs.declared.tape.Put.{Put}
+use Rattle.std.specs.Prelude.{Result}
+use Rattle.journal.specs.declared.laying.NotLaid.{NotLaid}
 use Rattle.journal.specs.Tape.{put_line, tape_after}
 use Rattle.recorder.specs.declared.recording.Filled.{Filled}
 use Rattle.recorder.specs.Laying.{after_put, taped, laid_line}
@@ -25,7 +26,7 @@ module _ (count : ℕ) (ns : List ℕ) (used : ℕ) (u : used ≡ min count 20) 
       (λ h. take_all used ns (omega arith) ∙ sym (take_all count ns (omega arith))) (lt_or_le count 20)
 
 -- the line was put, and the answer turned out to be v
-pub put_so : (f : Filled) (long l : ℕ) (t : List ℕ) {ns ms u : List ℕ} {p v : Put} → ns ≡ ms → p ≡ put_line long f.entries l ns → p ≡ v → u ≡ tape_after f.entries l ns t
+pub put_so : (f : Filled) (long l : ℕ) (t : List ℕ) {ns ms u : List ℕ} {p v : Result ℕ NotLaid} → ns ≡ ms → p ≡ put_line long f.entries l ns → p ≡ v → u ≡ tape_after f.entries l ns t
     → (after_put f v ≡ after_put f (put_line long f.entries l ms)) × (u ≡ tape_after f.entries l ms t)
 put_so f long l t m e d a = (ap (after_put f) (sym d ∙ e ∙ ap (put_line long f.entries l) m), a ∙ ap (λ (x : List ℕ). tape_after f.entries l x t) m)
 

@@ -6,14 +6,14 @@ use mathlib.Core.Path.{◌≡◌, sym, ap, ◌∙◌}
 use mathlib.Core.List.{List, ◌∷◌}
 use borrow.Author.Tests.{eq-eqb, ne_eqb}
 use Rattle.refusals.specs.declared.JournalError.{JournalError}
-use Rattle.refusals.specs.Number.{journal_number}
+use Rattle.std.specs.Prelude.{Ok, Err}
+use Rattle.refusals.specs.declared.Refusal.TheVariants.{Journal}
 use Rattle.keys.specs.Keys.{no_key}
 use Rattle.script.specs.declared.line.Words.{Words}
 use Rattle.console.specs.declared.act.State.{State}
 use Rattle.console.specs.declared.act.Act.{Act}
-use Rattle.console.specs.Act.{act_of}
+use Rattle.console.specs.Act.{act_number, act_of}
 use Rattle.journal.specs.declared.hand.HandHead.{HandHead}
-use Rattle.journal.specs.declared.hand.HandRead.TheVariants.{Refused, Hand}
 use Rattle.journal.specs.declared.reading.LineRead.{LineRead}
 use Rattle.journal.specs.Hand.{reads}
 use Rattle.journal.specs.Reading.{line_read}
@@ -28,7 +28,7 @@ accepted-first : (n : ℕ) (s : State) (w : Words) (ws : List Words) → answere
 unfolding played_on
 accepted-first n s w ws z = rw (eq-eqb (answered w s) 0 z, add-one n)
 
-refused-first : (n : ℕ) (s : State) (w : Words) (ws : List Words) → (answered w s ≡ 0 → ⊥) → played_on n s (w ∷ ws) ≡ replayed (answered w s) n s
+refused-first : (n : ℕ) (s : State) (w : Words) (ws : List Words) → (answered w s ≡ 0 → ⊥) → played_on n s (w ∷ ws) ≡ replayed (act_of w s).answer n s
 unfolding played_on
 refused-first n s w ws z = rw (ne_eqb (answered w s) 0 z)
 
@@ -38,12 +38,12 @@ pub record Playing (b : List ℕ) (h : HandHead) (s : State) (at lines : ℕ) : 
   pub same : played_on lines s (left b h.entries at) ≡ replay_of h.title.key (lines_in b)
   pub few : lines ≤ at
 
-module _ (b : List ℕ) (h : HandHead) (e : reads b ≡ Hand h) where
+module _ (b : List ℕ) (h : HandHead) (e : reads b ≡ Ok h) where
   pub begins : {s : State} → s ≡ fresh_with h.title.key → Playing b h s 0 0
   begins f = record { place = at_first b h e; same = (λ i. played_on 0 (f i) (left-first b h e i)); few = omega arith }
 
   module _ {s : State} {at lines : ℕ} (p : Playing b h s at lines) where
-    pub ends : h.entries ≤ at → replayed 0 lines s ≡ replay_of h.title.key (lines_in b)
+    pub ends : h.entries ≤ at → replayed (Ok tt) lines s ≡ replay_of h.title.key (lines_in b)
     unfolding played_on
     ends n = sym (ap (played_on lines s) (left-none b h e at n)) ∙ p.same
 
@@ -54,23 +54,23 @@ module _ (b : List ℕ) (h : HandHead) (e : reads b ≡ Hand h) where
       pub goes-up : at < read.next
       goes-up = rw r (moves b at (omega (arith, count-is b h e))).0
 
-      pub stops : (act.number ≡ 0 → ⊥) → replayed act.number lines s ≡ replay_of h.title.key (lines_in b)
-      stops n = (λ i. replayed (a i).number lines s) ∙ sym (refused-first lines s read.words (left b h.entries read.next) (λ z. n ((λ i. (a i).number) ∙ z))) ∙ sym (ap (played_on lines s) here) ∙ p.same
+      pub stops : (act_number act ≡ 0 → ⊥) → replayed act.answer lines s ≡ replay_of h.title.key (lines_in b)
+      stops n = (λ i. replayed (a i).answer lines s) ∙ sym (refused-first lines s read.words (left b h.entries read.next) (λ z. n ((λ i. act_number (a i)) ∙ z))) ∙ sym (ap (played_on lines s) here) ∙ p.same
 
-      pub goes_on : act.number ≡ 0 → Playing b h act.state read.next (lines + 1)
+      pub goes_on : act_number act ≡ 0 → Playing b h act.state read.next (lines + 1)
       goes_on z = record {
         place = rw r (at_next b h e at l p.place);
         same =
-            (λ i. played_on (lines + 1) (a i).state (left b h.entries read.next)) ∙ sym (accepted-first lines s read.words (left b h.entries read.next) (sym (λ i. (a i).number) ∙ z))
+            (λ i. played_on (lines + 1) (a i).state (left b h.entries read.next)) ∙ sym (accepted-first lines s read.words (left b h.entries read.next) (sym (λ i. act_number (a i)) ∙ z))
             ∙ sym (ap (played_on lines s) here) ∙ p.same;
         few = omega (arith, goes-up, p.few);
       }
 
 -- ---- by what the bytes read as
-pub not-read : (b : List ℕ) {e : JournalError} {n : ℕ} {s : State} → reads b ≡ Refused e → n ≡ journal_number e → s ≡ fresh_with no_key → replayed n 0 s ≡ replay_bytes b
+pub not-read : (b : List ℕ) {e : JournalError} {s : State} → reads b ≡ Err e → s ≡ fresh_with no_key → replayed (Err (Journal e)) 0 s ≡ replay_bytes b
 unfolding replay_bytes replay_read
-not-read b r e f = (λ i. replayed (e i) 0 (f i)) ∙ ap (replay_read b) (sym r)
+not-read b {e = e} r f = (λ i. replayed (Err (Journal e)) 0 (f i)) ∙ ap (replay_read b) (sym r)
 
-pub was_read : (b : List ℕ) {h : HandHead} {x : Replayed} → reads b ≡ Hand h → x ≡ replay_of h.title.key (lines_in b) → x ≡ replay_bytes b
+pub was_read : (b : List ℕ) {h : HandHead} {x : Replayed} → reads b ≡ Ok h → x ≡ replay_of h.title.key (lines_in b) → x ≡ replay_bytes b
 unfolding replay_bytes replay_read
 was_read b r e = e ∙ ap (replay_read b) (sym r)

@@ -5,13 +5,16 @@ use native.Mathlib.Omega.{arith}
 use mathlib.Core.Path.{◌≡◌, refl, sym, ◌∙◌}
 use mathlib.Core.Bool.{Bool, true, false, cond}
 use mathlib.Core.List.{List, [], ◌∷◌, Memᴰ}
+use borrow.Author.Tests.{eq-eqb}
 use lib.Dec.{eqb}
 use lib.ListN.{length}
 use Rattle.keys.specs.declared.HandKey.{HandKey}
 use Rattle.keys.specs.Keys.{no_key}
 use Rattle.script.specs.declared.line.Words.{Words}
 use Rattle.console.specs.declared.act.State.{State}
-use Rattle.console.specs.Act.{on_table}
+use Rattle.std.specs.Prelude.{Some, Ok}
+use Rattle.table.specs.declared.GameState.{GameState}
+use Rattle.console.specs.Act.{act_number, on_table}
 use Rattle.console.proofs.LawsKey.{table_takes_key}
 use Rattle.recorder.specs.Hands.{answered, after, opens, goes_in, lines_until, state_until, Recorded, opened, hands_of}
 use Rattle.recorder.specs.Replay.{replayed, played_on, fresh_with, replay_of}
@@ -23,11 +26,11 @@ use Rattle.recorder.proofs.LawsTable.{Standing, until_keeps, stacks_in, opens-st
 -- ---- the lines after the `t`
 module _ (k : HandKey) where
   abbrev Plays : ℕ → State → List Words → State → Type 0
-  Plays n s ws t = played_on n (rekeyed k s) ws ≡ replayed 0 (n + length ws) (rekeyed k t)
+  Plays n s ws t = played_on n (rekeyed k s) ws ≡ replayed (Ok tt) (n + length ws) (rekeyed k t)
 
   none_left : (n : ℕ) (s : State) → Plays n s [] s
   unfolding played_on
-  none_left n s = let e : n ≡ n + 0 = omega arith in λ i. replayed 0 (e i) (rekeyed k s)
+  none_left n s = let e : n ≡ n + 0 = omega arith in λ i. replayed (Ok tt) (e i) (rekeyed k s)
 
   one_line : (n : ℕ) (s t : State) (w : Words) (ws : List Words) (o g : Bool) → opens w s ≡ o → goes_in w s ≡ g → ((m : ℕ) → Plays m (after w s) ws t)
       → Plays n s (cond o [] (cond g (w ∷ ws) ws)) (cond o s t)
@@ -36,7 +39,7 @@ module _ (k : HandKey) where
   one_line n s t w ws false true eo eg rest =
       let q = line_in k w s eo eg in
       let e : suc n + length ws ≡ n + suc (length ws) = omega arith in
-      (λ i. cond (eqb (q.0 i) 0) (played_on (suc n) (q.1 i) ws) (replayed (q.0 i) n (rekeyed k s))) ∙ rest (suc n) ∙ (λ i. replayed 0 (e i) (rekeyed k t))
+      rw (eq-eqb _ _ q.0) (λ i. played_on (suc n) (q.1 i) ws) ∙ rest (suc n) ∙ (λ i. replayed (Ok tt) (e i) (rekeyed k t))
   one_line n s t w ws false false eo eg rest = (λ i. played_on n (sym (left_out k w s eg) i) ws) ∙ rest n
 
   pub plays-on : (ws : List Words) (n : ℕ) (s : State) → Plays n s (lines_until s ws) (state_until s ws)
@@ -46,9 +49,10 @@ module _ (k : HandKey) where
 
 -- ---- a hand from its `t` on
 pub record Replays (h : Recorded) : Type 0 where
-  pub again : replay_of h.key h.lines ≡ replayed 0 (length h.lines) (on_table h.ended.table no_key)
-  pub stands : h.ended.stands ≡ true
-  pub key : h.ended.table.added.key ≡ h.key
+  pub table : GameState
+  pub stands : h.ended.table ≡ Some table
+  pub again : replay_of h.key h.lines ≡ replayed (Ok tt) (length h.lines) (on_table table no_key)
+  pub key : table.added.key ≡ h.key
 
 module _ (s : State) (w : Words) (ws : List Words) (e : opens w s ≡ true) where
   abbrev ls : List Words
@@ -68,15 +72,16 @@ module _ (s : State) (w : Words) (ws : List Words) (e : opens w s ≡ true) wher
   unfolding played_on
   first-line =
       let a = table-fresh w s e in
-      let k : (after w s).key ≡ no_key = (table_takes_key w s (opens_so w s e).0 accepted).1 in
-      (λ i. cond (eqb (a i).number 0) (played_on 1 (a i).state ls) (replayed (a i).number 0 (fresh_with s.key)))
-      ∙ (λ i. cond (eqb (accepted i) 0) (played_on 1 (rekeyed (k i) (after w s)) ls) (replayed (accepted i) 0 (fresh_with s.key)))
+      let k : (after w s).key ≡ no_key = (table_takes_key w s (opens_so w s e).0 accepted).3 in
+      (λ i. cond (eqb (act_number (a i)) 0) (played_on 1 (a i).state ls) (replayed (a i).answer 0 (fresh_with s.key)))
+      ∙ rw (eq-eqb _ _ accepted) (λ i. played_on 1 (rekeyed (k i) (after w s)) ls)
 
   opened_replays : Replays (opened s w ws)
   opened_replays = record {
+    table = standing.table;
     again =
         let n : 1 + length ls ≡ suc (length ls) = omega arith in
-        first-line ∙ plays-on no_key ws 1 (after w s) ∙ (λ i. replayed 0 (n i) (record { stands = standing.stands i; table = end.table; key = no_key }));
+        first-line ∙ plays-on no_key ws 1 (after w s) ∙ (λ i. replayed (Ok tt) (n i) (record { table = standing.stands i; key = no_key }));
     stands = standing.stands;
     key = standing.key;
   }

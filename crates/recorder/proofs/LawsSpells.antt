@@ -19,7 +19,7 @@ use Rattle.recorder.specs.Entries.{line_of}
 use Rattle.recorder.specs.Hands.{after, opens, goes_in, lines_until}
 use Rattle.recorder.proofs.LawsHands.{Each, none, more}
 use Rattle.recorder.proofs.LawsLine.{opens_so, no_table_lem, goes_so, table-letter, table-count}
-use Rattle.recorder.proofs.LawsTable.{Standing, line-stands, stacks_in, opens-short, opens-stands}
+use Rattle.recorder.proofs.LawsTable.{Standing, seats-of, line-stands, stacks_in, opens-short, opens-stands}
 use Rattle.recorder.proofs.LawsTakes.{line-counts, all_there, each_until}
 use Rattle.recorder.proofs.LawsWords.{Proper, numbers-long, own-taken}
 
@@ -57,10 +57,10 @@ rest_back (w ∷ ws) (more f a) = λ i. f.same i ∷ rest_back ws a i
 
 line-fits : (k : HandKey) (n : ℕ) (w : Words) (s : State) → Standing k n s → Proper w → opens w s ≡ false → goes_in w s ≡ true → Fits n w
 line-fits k n w s t p f g =
-    let r = line-counts w s f g in
+    let r = line-counts w s f g n (λ u i. seats-of t u i) in
     record {
       other = no_table_lem w s f (goes_so w s g).1;
-      counts = rw (all_there w p r.1, ← t.seats) r.0;
+      counts = rw (all_there w p r.1) r.0;
       small = small-there w p r.1;
       same = back w p r.1;
     }

@@ -2,16 +2,17 @@
 -- Assumes nothing.
 use Prim.Native.Nat.{ℕ, ◌-◌, ◌≤◌}
 use native.Mathlib.Omega.{arith}
-use mathlib.Core.Path.{◌≡◌, refl, sym, ◌∙◌, subst}
+use mathlib.Core.Path.{◌≡◌, refl, sym, ap, ◌∙◌, subst}
+use Rattle.std.specs.Prelude.{Option, Some, None, Result, Ok, Err}
+use Rattle.std.specs.Option.{option_map}
+use Rattle.refusals.specs.declared.AddedError.{AddedError}
 use mathlib.Core.Logic.{◌≢◌, ⊎_elim}
 use mathlib.Core.Bool.{Bool, true, false, cond, ◌&&◌}
 use mathlib.Core.List.{List, [], ◌∷◌}
 use lib.Dec.{eqb, leb}
 use lib.ListN.{length, take}
 use Rattle.commons.proofs.Bools.{either, pick, tested}
-use Rattle.refusals.specs.declared.Verdict.{Verdict}
-use Rattle.refusals.specs.declared.Verdict.TheVariants.{Stands, Refused}
-use Rattle.refusals.specs.Rows.{judge}
+use Rattle.refusals.specs.Rows.{Verdict, judge}
 use Rattle.refusals.proofs.Numbers.{numbered}
 use Rattle.refusals.proofs.Rows.{answer-of}
 use Rattle.keys.specs.declared.HandKey.{HandKey}
@@ -29,11 +30,12 @@ use Rattle.settlement.specs.declared.Settled.{Settled}
 use Rattle.settlement.specs.Settlement.{refused, settle_rows, someone, settled_of}
 use Rattle.script.specs.declared.line.Words.{Words}
 use Rattle.script.specs.declared.line.Line.{Line}
-use Rattle.script.specs.declared.line.Line.TheVariants.{Table, Advance, Fold, Bet, Forced, Complete, Settle, Key, Bad}
+use Rattle.script.specs.declared.line.Line.TheVariants.{Table, Advance, Fold, Bet, Forced, Complete, Settle, Key}
 use Rattle.script.specs.Line.{meaning_of}
 use Rattle.console.specs.declared.act.State.{State}
 use Rattle.console.specs.declared.act.Act.{Act}
-use Rattle.console.specs.Act.{on_table, acted, bad_line, needing, settled, ranked, opened, act_of}
+use Rattle.console.specs.Act.{act_number, bad_line, needing, stepped, wagered, settled, ranked_at, ranked, opened, act_of}
+use Rattle.console.proofs.LawsAct.{needing_by}
 use Rattle.console.specs.Act as console
 use Rattle.console.specs.Opening.{chips_of, amounts_from, told, opening_of}
 use Rattle.console.proofs.LawsKey.{table_takes_key, others_leave_keys}
@@ -74,53 +76,69 @@ module _ (t : GameState) where
   unfolding settled_of
   settled-seats ranks = answer-of _ (refused t) (λ (r : Settled). r.table.num_players ≡ seats) (judge (settle_rows t (someone t ranks))) (λ v. refl) (λ r. refl)
 
+-- what is known of the table behind an option of it
+module _ {A : Type 0} (f : GameState → A) where
+  mapped : (o : Option GameState) (y : A) → option_map f o ≡ Some y → (t : GameState) × (o ≡ Some t) × (f t ≡ y)
+  mapped None y e = absurd (let z : ◌≡◌ {A = ℕ} 0 1 = cc in omega arith)
+  mapped (Some t) y e = (t, refl, (let same : f t ≡ y = cc in same))
+
+  mapped_at : {o : Option GameState} {t : GameState} {y : A} → o ≡ Some t → option_map f o ≡ Some y → f t ≡ y
+  mapped_at {t = t} {y} i e = let m : ◌≡◌ {A = Option A} (Some (f t)) (Some y) = sym (ap (option_map f) i) ∙ e in cc
+
 -- ---- and so does a line that opens no hand
+abbrev seats_in : State → Option ℕ
+seats_in s = option_map (λ t. t.num_players) s.table
+
 abbrev Seated : State → Act → Type 0
-Seated s a = (s.stands ≡ true → a.state.stands ≡ true) × (a.state.table.num_players ≡ s.table.num_players)
+Seated s a = seats_in a.state ≡ seats_in s
 
 module _ (s : State) where
-  needing-seats : (n : ℕ) (t : GameState) → t.num_players ≡ s.table.num_players → Seated s (needing s n t)
-  unfolding needing
-  needing-seats n t e = pick (Seated s) s.stands (acted n (on_table t s.key)) (bad_line s) (λ h. refl, e) (λ h. h, refl)
+  needing-seats : (f : GameState → Act) → ((t : GameState) → seats_in (f t).state ≡ Some t.num_players) → Seated s (needing s f)
+  needing-seats f g = needing_by s f (Seated s) refl (λ t e. rw e (g t))
 
   ranked-seats : (count : ℕ) (ns : List ℕ) → Seated s (ranked s count ns)
   unfolding ranked
   ranked-seats count ns =
-      pick (Seated s) (eqb count s.table.num_players) (settled s (settled_of s.table (take 16 ns))) (bad_line s)
-      (needing-seats _ _ (settled-seats s.table (take 16 ns))) (λ h. h, refl)
+      needing_by s (ranked_at s count ns) (Seated s) refl
+      (λ t e. pick (Seated s) (eqb count t.num_players) (settled s.key (settled_of t (take 16 ns))) (bad_line s) (rw e (ap Some (settled-seats t (take 16 ns)))) refl)
 
-  done-seats : (w : Words) (l : Line) → l ≢ Table → Seated s (console.done s w l)
-  done-seats w Table t = absurd (t refl)
-  done-seats w Advance t = needing-seats _ _ (advance-seats s.table)
-  done-seats w Fold t = needing-seats _ _ (fold-seats s.table)
-  done-seats w (Bet x) t = needing-seats _ _ (bet-seats s.table (chips_of x) false)
-  done-seats w (Forced x) t = needing-seats _ _ (bet-seats s.table (chips_of x) true)
-  done-seats w Complete t = needing-seats _ _ (complete-seats s.table)
-  done-seats w Settle t = ranked-seats w.count w.numbers
-  done-seats w Key t = (λ h. h, refl)
-  done-seats w Bad t = (λ h. h, refl)
+  done-seats : (w : Words) (l : Result Line AddedError) → l ≢ Ok Table → Seated s (console.done s w l)
+  done-seats w (Ok Table) t = absurd (t refl)
+  done-seats w (Ok Advance) t = needing-seats (λ t. stepped s.key (advance_of t)) (λ t. ap Some (advance-seats t))
+  done-seats w (Ok Fold) t = needing-seats (λ t. stepped s.key (fold_of t)) (λ t. ap Some (fold-seats t))
+  done-seats w (Ok (Bet x)) t = needing-seats (λ t. wagered s.key (bet_of t (chips_of x) false)) (λ t. ap Some (bet-seats t (chips_of x) false))
+  done-seats w (Ok (Forced x)) t = needing-seats (λ t. wagered s.key (bet_of t (chips_of x) true)) (λ t. ap Some (bet-seats t (chips_of x) true))
+  done-seats w (Ok Complete) t = needing-seats (λ t. stepped s.key (complete_of t)) (λ t. ap Some (complete-seats t))
+  done-seats w (Ok Settle) t = ranked-seats w.count w.numbers
+  done-seats w (Ok Key) t = refl
+  done-seats w (Err e) t = refl
 
-  line-seats : (w : Words) → meaning_of w ≢ Table → Seated s (act_of w s)
+  line-seats : (w : Words) → meaning_of w ≢ Ok Table → Seated s (act_of w s)
   unfolding act_of
   line-seats w = done-seats w (meaning_of w)
 
 -- ---- what stands in a hand: a table, its key and its seats
 pub record Standing (k : HandKey) (n : ℕ) (s : State) : Type 0 where
-  pub stands : s.stands ≡ true
-  pub key : s.table.added.key ≡ k
-  pub seats : s.table.num_players ≡ n
+  pub table : GameState
+  pub stands : s.table ≡ Some table
+  pub key : table.added.key ≡ k
+  pub seats : table.num_players ≡ n
 
 -- a line that opens no hand leaves all three
 module _ {k : HandKey} {n : ℕ} where
+  pub seats-of : {s : State} → Standing k n s → (t : GameState) → s.table ≡ Some t → t.num_players ≡ n
+  seats-of h t e = mapped_at (λ t. t.num_players) e (ap (option_map (λ t. t.num_players)) h.stands ∙ ap Some h.seats)
+
   line-keeps : (w : Words) (s : State) (g : Bool) → opens w s ≡ false → goes_in w s ≡ g → Standing k n s → Standing k n (after w s)
   line-keeps w s true f g h =
       let q = goes_so w s g in
-      let t : meaning_of w ≢ Table = λ e. table-refused w s f e q.1 in
-      let seated = line-seats s w t in
-      record { stands = seated.0 h.stands; key = (λ i. ((others_leave_keys w s t q.0).0 i).key) ∙ h.key; seats = seated.1 ∙ h.seats }
+      let t : meaning_of w ≢ Ok Table = λ e. table-refused w s f e q.1 in
+      let m = mapped (λ t. t.num_players) (after w s).table h.table.num_players (line-seats s w t ∙ ap (option_map (λ t. t.num_players)) h.stands) in
+      let same : m.0.added ≡ h.table.added = mapped_at (λ t. t.added) m.1 ((others_leave_keys w s t q.0).0 ∙ ap (option_map (λ t. t.added)) h.stands) in
+      record { table = m.0; stands = m.1; key = (λ i. (same i).key) ∙ h.key; seats = m.2 ∙ h.seats }
   line-keeps w s false f g h =
       let e = left_out no_key w s g in
-      record { stands = (λ i. (e i).stands) ∙ h.stands; key = (λ i. (e i).table.added.key) ∙ h.key; seats = (λ i. (e i).table.num_players) ∙ h.seats }
+      record { table = h.table; stands = (λ i. (e i).table) ∙ h.stands; key = h.key; seats = h.seats }
 
   pub line-stands : (w : Words) (s : State) → opens w s ≡ false → Standing k n s → Standing k n (after w s)
   line-stands w s f h = line-keeps w s (goes_in w s) f refl h
@@ -131,10 +149,10 @@ module _ {k : HandKey} {n : ℕ} where
   until_keeps (w ∷ ws) s h = tested (Standing k n) (opens w s) s (state_until (after w s) ws) (λ e. h) (λ f. until_keeps ws (after w s) (line-stands w s f h))
 
 -- ---- the table that an accepted `t` opens
-build-seats : (b : GameStateBuilder) → (build_of b).answer ≡ Stands → (build_of b).table.num_players ≡ seats_of b
+build-seats : (b : GameStateBuilder) → (build_of b).answer ≡ Ok tt → (build_of b).table.num_players ≡ seats_of b
 unfolding build_of built_of
 build-seats b =
-    answer-of (built_step b) not_built (λ (r : BuildStep). r.answer ≡ Stands → r.table.num_players ≡ seats_of b) (judge (build_rows b)) (λ v e. refl)
+    answer-of (built_step b) not_built (λ (r : BuildStep). r.answer ≡ Ok tt → r.table.num_players ≡ seats_of b) (judge (build_rows b)) (λ v e. refl)
     (λ r e. absurd (let z : ◌≡◌ {A = ℕ} 0 1 = cc in omega arith))
 
 -- the stacks of a line
@@ -143,7 +161,7 @@ stacks_in w = length (take (w.count - 4) (amounts_from w.numbers))
 
 module _ (w : Words) where
   abbrev Opens : BuildStep → Type 0
-  Opens r = r.answer ≡ Stands → (w.count ≤ 20) × (r.table.num_players ≡ stacks_in w)
+  Opens r = r.answer ≡ Ok tt → (w.count ≤ 20) × (r.table.num_players ≡ stacks_in w)
 
   opening-seats : (key : HandKey) → Opens (opening_of key w.count w.numbers)
   opening-seats key =
@@ -152,17 +170,17 @@ module _ (w : Words) where
 
   module _ (s : State) where
     abbrev Seats : Act → Type 0
-    Seats a = a.number ≡ 0 → (w.count ≤ 20) × ((a.state.stands ≡ true) × (a.state.table.num_players ≡ stacks_in w))
+    Seats a = act_number a ≡ 0 → (w.count ≤ 20) × (seats_in a.state ≡ Some (stacks_in w))
 
-    opened-seats : (t : GameState) (v : Verdict) → (v ≡ Stands → (w.count ≤ 20) × (t.num_players ≡ stacks_in w)) → Seats (opened s (record { answer = v; table = t }))
-    opened-seats t Stands q z = ((q refl).0, (refl, (q refl).1))
-    opened-seats t (Refused r) q z = absurd (numbered r z)
+    opened-seats : (t : GameState) (v : Verdict) → (v ≡ Ok tt → (w.count ≤ 20) × (t.num_players ≡ stacks_in w)) → Seats (opened s (record { answer = v; table = t }))
+    opened-seats t (Ok _) q z = ((q refl).0, ap Some (q refl).1)
+    opened-seats t (Err r) q z = absurd (numbered r z)
 
-    table-seats : meaning_of w ≡ Table → Seats (act_of w s)
+    table-seats : meaning_of w ≡ Ok Table → Seats (act_of w s)
     unfolding act_of
     table-seats e =
         let o = opening_of s.key w.count w.numbers in
-        subst (λ (l : Line). Seats (console.done s w l)) (sym e) (opened-seats o.table o.answer (opening-seats s.key))
+        subst (λ (l : Result Line AddedError). Seats (console.done s w l)) (sym e) (opened-seats o.table o.answer (opening-seats s.key))
 
     pub opens-short : opens w s ≡ true → w.count ≤ 20
     opens-short e = let q = opens_so w s e in (table-seats q.0 q.1).0
@@ -170,5 +188,5 @@ module _ (w : Words) where
     pub opens-stands : opens w s ≡ true → Standing s.key (stacks_in w) (after w s)
     opens-stands e =
         let q = opens_so w s e in
-        let r = (table-seats q.0 q.1).1 in
-        record { stands = r.0; key = (table_takes_key w s q.0 q.1).0; seats = r.1 }
+        let u = table_takes_key w s q.0 q.1 in
+        record { table = u.0; stands = u.1; key = u.2; seats = mapped_at (λ t. t.num_players) u.1 (table-seats q.0 q.1).1 }

@@ -1,7 +1,11 @@
 -- An accepted line is one that the journal takes: its letter is of a hand, its count of numbers is its letter's, and they are at most twenty. Assumes nothing.
 use Prim.Native.Nat.{ℕ, ◌≤◌}
 use native.Mathlib.Omega.{arith}
-use mathlib.Core.Path.{◌≡◌, refl}
+use mathlib.Core.Path.{◌≡◌, refl, ◌∙◌}
+use Rattle.std.specs.Prelude.{Some, Result, Ok, Err}
+use Rattle.refusals.specs.declared.AddedError.{AddedError}
+use Rattle.refusals.specs.declared.AddedError.TheVariants.{BadLine}
+use Rattle.table.specs.declared.GameState.{GameState}
 use mathlib.Core.Logic.{◌≢◌}
 use mathlib.Core.Bool.{Bool, true, false, cond}
 use mathlib.Core.List.{List, [], ◌∷◌}
@@ -11,7 +15,7 @@ use lib.Seq.{length-take-le}
 use Rattle.commons.proofs.Bools.{tested}
 use Rattle.script.specs.declared.line.Words.{Words}
 use Rattle.script.specs.declared.line.Line.{Line}
-use Rattle.script.specs.declared.line.Line.TheVariants.{Table, Settle, Key, Bad}
+use Rattle.script.specs.declared.line.Line.TheVariants.{Table, Settle, Key}
 use Rattle.script.specs.Line.{meaning_of}
 use Rattle.console.specs.declared.act.State.{State}
 use Rattle.journal.specs.Lines.{count_ok}
@@ -20,7 +24,7 @@ use Rattle.recorder.specs.Hands.{after, opens, goes_in, lines_until}
 use Rattle.recorder.proofs.LawsHands.{Each, none, more}
 use Rattle.recorder.proofs.LawsHeld.{Kept}
 use Rattle.recorder.proofs.LawsLine.{Asks, table, advance, fold, bet, forced, complete, settle, key, bad, asks_it, not-bad, table-letter, table-count, opens_so, table-refused, goes_so}
-use Rattle.recorder.proofs.LawsSettle.{settle_so}
+use Rattle.recorder.proofs.LawsSettle.{Ranks, settle_so}
 use Rattle.recorder.proofs.LawsTable.{opens-short}
 use Rattle.recorder.proofs.LawsWords.{Proper, numbers-long}
 
@@ -28,7 +32,7 @@ use Rattle.recorder.proofs.LawsWords.{Proper, numbers-long}
 abbrev Right : ℕ → ℕ → ℕ → Type 0
 Right letter seats count = (count_ok letter seats count ≡ true) × (count ≤ 20)
 
-right-count : {l n x : ℕ} {m : Line} (seats : ℕ) → Asks l n x m → m ≢ Table → m ≢ Key → m ≢ Bad → (m ≡ Settle → (n ≡ seats) × (seats ≤ 16)) → Right l seats n
+right-count : {l n x : ℕ} {m : Result Line AddedError} (seats : ℕ) → Asks l n x m → m ≢ Ok Table → m ≢ Ok Key → m ≢ Err BadLine → (m ≡ Ok Settle → (n ≡ seats) × (seats ≤ 16)) → Right l seats n
 unfolding count_ok
 right-count seats (table e f) t k b s = absurd (t refl)
 right-count seats (advance e f) t k b s = rw (e, f) (refl, omega arith)
@@ -43,20 +47,20 @@ right-count seats bad t k b s = absurd (b refl)
 -- ---- what goes in
 module _ (w : Words) (s : State) where
   -- of a line that goes in and opens nothing
-  counts_so : opens w s ≡ false → goes_in w s ≡ true → (seats : ℕ) → (meaning_of w ≡ Settle → (w.count ≡ seats) × (seats ≤ 16)) → Right w.letter seats w.count
+  counts_so : opens w s ≡ false → goes_in w s ≡ true → (seats : ℕ) → (meaning_of w ≡ Ok Settle → (w.count ≡ seats) × (seats ≤ 16)) → Right w.letter seats w.count
   counts_so f g seats h =
       let q = goes_so w s g in
       right-count seats (asks_it w) (λ e. table-refused w s f e q.1) q.0 (not-bad w s q.1) h
 
-  settles : goes_in w s ≡ true → meaning_of w ≡ Settle → (w.count ≡ s.table.num_players) × (s.table.num_players ≤ 16)
+  settles : goes_in w s ≡ true → meaning_of w ≡ Ok Settle → Ranks s w.count
   settles g e = settle_so w s e (goes_so w s g).1
 
-  pub line-counts : opens w s ≡ false → goes_in w s ≡ true → Right w.letter s.table.num_players w.count
-  line-counts f g = counts_so f g s.table.num_players (settles g)
+  pub line-counts : opens w s ≡ false → goes_in w s ≡ true → (seats : ℕ) → ((t : GameState) → s.table ≡ Some t → t.num_players ≡ seats) → Right w.letter seats w.count
+  line-counts f g seats h = counts_so f g seats (λ e. let q = settles g e in let n = h q.0 q.1 in (q.2 ∙ n, omega (arith, n, q.3)))
 
   -- its own count is right where `w` may have any
   line_takes : opens w s ≡ false → goes_in w s ≡ true → Right w.letter w.count w.count
-  line_takes f g = counts_so f g w.count (λ e. let q = settles g e in (refl, omega (arith, q.0, q.1)))
+  line_takes f g = counts_so f g w.count (λ e. let q = settles g e in (refl, omega (arith, q.2, q.3)))
 
   -- a `t` that opens a hand
   pub opening-counts : opens w s ≡ true → (seats : ℕ) → Right w.letter seats w.count

@@ -15,7 +15,7 @@ use Rattle.script.specs.Read.{line_from, read_at}
 use Rattle.script.proofs.LawsRead.{lines_from, next_place}
 use Rattle.console.specs.declared.act.State.{State}
 use Rattle.console.specs.declared.act.Act.{Act}
-use Rattle.console.specs.Act.{act_of}
+use Rattle.console.specs.Act.{act_number, act_of}
 use Rattle.recorder.specs.Hands.{after, opens}
 use Rattle.recorder.specs.Taking.{place, opens_at, next_table}
 
@@ -38,7 +38,7 @@ line h r a = record { here = h; was_read = r; played = a }
 
 -- whether it opens a hand, by its letter and its answer
 abbrev pub opening : Read → Act → Bool
-opening read act = is read.words.letter "t" && eqb act.number 0
+opening read act = is read.words.letter "t" && eqb (act_number act) 0
 
 module _ {script : List ℕ} {at : ℕ} {s : State} {read : Read} {act : Act} (x : Line script at s read act) where
   abbrev w : Words

@@ -9,5 +9,8 @@ pub next-hand : OneResult promised.recording.next_hand.ended crate.recording.nex
 next-hand κs a x y = same and past (past (past (only same)))
 
 -- ---- src/replaying.rt
+pub number : OneResult promised.replaying.Replayed.number.ended crate.replaying.Replayed.number.Reads.Learnt
+number κs a x y = only same
+
 pub replay_hand : OneResult promised.replaying.replay_hand.ended crate.replaying.replay_hand.Reads.Learnt
 replay_hand κs a x y = only same

@@ -1,5 +1,7 @@
 -- The promises of the recorder: what it records of a script is the hands of the script, each is a hand of the journal, and each, written, read and played again, comes
 -- to the table that stood when it was closed, with its key. Assumes nothing.
+use Rattle.std.specs.Prelude.{Some, Ok, Err}
+use Rattle.table.specs.declared.GameState.{GameState}
 use Prim.Native.Nat.{ℕ}
 use mathlib.Core.Path.{◌≡◌, refl, sym, ap, ◌∙◌}
 use mathlib.Core.Logic.{◌⊎◌, inl, inr}
@@ -15,8 +17,6 @@ use Rattle.script.specs.Words.{words_of}
 use Rattle.console.specs.declared.act.State.{State}
 use Rattle.console.specs.Act.{on_table}
 use Rattle.console.specs.Play.{at_start}
-use Rattle.journal.specs.declared.hand.HandRead.TheVariants.{Hand}
-use Rattle.journal.specs.declared.hand.HandWritten.TheVariants.{Denied, Blocks}
 use Rattle.journal.specs.Hand.{block_count, hand_bytes, writes, reads}
 use Rattle.journal.specs.Lines.{spells, lines_of}
 use Rattle.journal.specs.Reading.{as_played}
@@ -56,14 +56,14 @@ recorded_is_a_hand script h m = (kept script h m).spelt
 
 -- so the writer never answers 27 to it
 pub recorded_is-written : (script : List ℕ) (h : Recorded) → Memᴰ h (script_hands script)
-    → (writes (title_of h.key) (entries_of h.lines) ≡ Denied NotKept) ⊎ (writes (title_of h.key) (entries_of h.lines) ≡ Blocks (block_count (length (entries_of h.lines))))
+    → (writes (title_of h.key) (entries_of h.lines) ≡ Err NotKept) ⊎ (writes (title_of h.key) (entries_of h.lines) ≡ Ok (block_count (length (entries_of h.lines))))
 unfolding writes
 recorded_is-written script h m = rw (recorded_is_a_hand script h m) (by (not (is_key h.key) || ltb 30600 (length (entries_of h.lines))))
   where
     n : ℕ
     n = block_count (length (entries_of h.lines))
 
-    by : (b : Bool) → (cond b (Denied NotKept) (Blocks n) ≡ Denied NotKept) ⊎ (cond b (Denied NotKept) (Blocks n) ≡ Blocks n)
+    by : (b : Bool) → (cond b (Err NotKept) (Ok n) ≡ Err NotKept) ⊎ (cond b (Err NotKept) (Ok n) ≡ Ok n)
     by true = inl refl
     by false = inr refl
 
@@ -72,16 +72,17 @@ abbrev pub image_of : Recorded → List ℕ
 image_of h = hand_bytes (title_of h.key) (entries_of h.lines)
 
 pub record Returns (h : Recorded) (n : ℕ) : Type 0 where
-  pub read : reads (image_of h) ≡ Hand (record { title = title_of h.key; blocks = n; entries = length (entries_of h.lines) })
+  pub read : reads (image_of h) ≡ Ok (record { title = title_of h.key; blocks = n; entries = length (entries_of h.lines) })
   pub lines : lines_in (image_of h) ≡ h.lines
-  pub again : replay_bytes (image_of h) ≡ replayed 0 (length h.lines) (on_table h.ended.table no_key)
-  pub stands : h.ended.stands ≡ true
-  pub key : h.ended.table.added.key ≡ h.key
+  pub table : GameState
+  pub stands : h.ended.table ≡ Some table
+  pub again : replay_bytes (image_of h) ≡ replayed (Ok tt) (length h.lines) (on_table table no_key)
+  pub key : table.added.key ≡ h.key
 
-pub recorded_read_replays : (script : List ℕ) (h : Recorded) → Memᴰ h (script_hands script) → (n : ℕ) → writes (title_of h.key) (entries_of h.lines) ≡ Blocks n → Returns h n
+pub recorded_read_replays : (script : List ℕ) (h : Recorded) → Memᴰ h (script_hands script) → (n : ℕ) → writes (title_of h.key) (entries_of h.lines) ≡ Ok n → Returns h n
 recorded_read_replays script h m n e =
     let k = kept script h m in
     let r = recorded_replays script h m in
     let t = round_trip (title_of h.key) (entries_of h.lines) n k.fits e in
     let ls : lines_in (image_of h) ≡ h.lines = ap (λ (ws : List ℕ). map as_played (lines_of ws)) t.1 ∙ k.back in
-    record { read = t.0; lines = ls; again = sym (was_read (image_of h) t.0 (sym (ap (replay_of h.key) ls ∙ r.again))); stands = r.stands; key = r.key }
+    record { read = t.0; lines = ls; again = sym (was_read (image_of h) t.0 (sym (ap (replay_of h.key) ls ∙ r.again))); table = r.table; stands = r.stands; key = r.key }

@@ -7,12 +7,12 @@ use Rattle.script.specs.Ascii.{is}
 use Rattle.script.specs.Split.{lines}
 use Rattle.script.specs.Words.{words_of}
 use Rattle.console.specs.declared.act.State.{State}
-use Rattle.console.specs.Act.{act_of}
+use Rattle.console.specs.Act.{act_number, act_of}
 use Rattle.console.specs.Play.{at_start}
 
 -- the number that a line answers, and what stands after it
 abbrev pub answered : Words → State → ℕ
-answered w s = (act_of w s).number
+answered w s = act_number (act_of w s)
 
 abbrev pub after : Words → State → State
 after w s = (act_of w s).state

@@ -1,8 +1,7 @@
 -- R18.15: a line laid on the tape behind the entries of its hand, as the code goes. Definitions only.
-use Rattle.std.specs.Prelude.{ℕ, Bool, true, false, cond, ◌&&◌, List, [], ◌∷◌, length, take}
+use Rattle.std.specs.Prelude.{ℕ, Bool, true, false, cond, ◌&&◌, List, [], ◌∷◌, Result, Ok, Err, length, take}
 use Rattle.script.specs.declared.line.Words.{Words}
-use Rattle.journal.specs.declared.tape.Put.{Put}
-use Rattle.journal.specs.declared.tape.Put.TheVariants.{Denied, NoRoom, Laid}
+use Rattle.journal.specs.declared.laying.NotLaid.{NotLaid}
 use Rattle.journal.specs.Tape.{put_line, tape_after}
 use Rattle.recorder.specs.declared.recording.Filled.{Filled}
 
@@ -10,10 +9,9 @@ abbrev pub filled : ℕ → Bool → Filled
 filled entries whole = record { entries = entries; is_whole = whole }
 
 -- what is filled once a line was put
-unfoldable pub after_put : Filled → Put → Filled
-after_put f (Denied e) = filled f.entries false
-after_put f NoRoom = filled f.entries false
-after_put f (Laid n) = filled n true
+unfoldable pub after_put : Filled → Result ℕ NotLaid → Filled
+after_put f (Ok n) = filled n true
+after_put f (Err e) = filled f.entries false
 
 -- a tape, and how far it is filled
 pub record Taped : Type 0 where

@@ -1,7 +1,6 @@
 -- R18.15: the next hand of a script from a place on. Definitions only.
-use Rattle.std.specs.Prelude.{ℕ, ◌+◌, true, false, cond, List, [], ◌∷◌, map, ltb, length, drop}
+use Rattle.std.specs.Prelude.{ℕ, ◌+◌, cond, List, [], ◌∷◌, map, ltb, length, drop, Some, None}
 use Rattle.keys.specs.declared.HandKey.{HandKey}
-use Rattle.keys.specs.Keys.{no_key}
 use Rattle.script.specs.declared.line.Words.{Words}
 use Rattle.script.specs.Split.{lines}
 use Rattle.script.specs.Words.{words_of}
@@ -48,7 +47,7 @@ hand_at script p = record { key = p.state.key; lines = lines_at script p; ended 
 
 -- a hand that is closed at a place, with its key and what was filled of the tape
 abbrev pub closed_with : Place → HandKey → Filled → Taken
-closed_with p key f = record { found = true; key = key; entries = f.entries; is_whole = f.is_whole; at = p.at; state = p.state }
+closed_with p key f = record { hand = Some (record { key = key; entries = f.entries; is_whole = f.is_whole }); at = p.at; state = p.state }
 
 -- ---- the next hand from a place on, with so much room on the tape
 abbrev pub taken_at : List ℕ → Place → ℕ → Taken
@@ -56,7 +55,7 @@ taken_at script p room = closed_with (closed_at script p) p.state.key (filled (l
 
 -- at the script's end there is none
 abbrev pub none_at : Place → Taken
-none_at p = record { found = false; key = no_key; entries = 0; is_whole = true; at = p.at; state = p.state }
+none_at p = record { hand = None; at = p.at; state = p.state }
 
 unfoldable pub taken : List ℕ → ℕ → State → ℕ → Taken
 taken script at s room =

@@ -9,18 +9,22 @@ ghost use Rattle.recorder.specs.Taking.{next_table, words_from, closed_with, tak
 use console::act;
 use console::act::State;
 use journal::tape;
-use journal::tape::Put;
 use keys::HandKey;
 use script::line::Words;
 use script::reader;
 
-// A hand of a script: its key, how many entries were laid, whether all were, where it is closed, and what stands there.
+// A hand of a script: its key, how many entries were laid, and whether all were.
 #[derive(Clone, Copy)]
-pub struct Taken {
-    pub found: bool,
+pub struct HandTaken {
     pub key: HandKey,
     pub entries: usize,
     pub is_whole: bool,
+}
+
+// The next hand, if there is one; where it is closed, and what stands there.
+#[derive(Clone, Copy)]
+pub struct Taken {
+    pub hand: Option<HandTaken>,
     pub at: usize,
     pub state: State,
 }
@@ -32,7 +36,7 @@ struct Place {
     state: State,
 }
 
-// How many entries are laid, and whether all lines so far found room.
+// How many entries are laid, and whether all lines so far found room. What is laid stays where a line finds none, so this is no `Option`.
 #[derive(Clone, Copy)]
 struct Filled {
     entries: usize,
@@ -40,6 +44,7 @@ struct Filled {
 }
 
 // Whether a line with this letter and this answer opens a hand.
+// By the number and not the `Result`, as `opens` and `goes_in` say it, of which the laws are. So with `is_line`.
 fn is_opening(letter: u8, number: u8) -> bool
     ensures { result ≡ (is letter "t" && eqb number 0) }
 {
@@ -57,18 +62,18 @@ fn is_line(letter: u8, number: u8) -> bool
 fn next_table(script: &[u8], from: usize, stood: State) -> Place
     ensures { result ≡ next_table script.now from stood }
 {
+    // By hand: the place moves by what was read there.
     let mut at = from;
     let mut state = stood;
     while at < script.len() {
         let read = reader::read_line(script, at);
         let words = read.words;
         let act = act::obey(words, state);
-        if is_opening(words.letter, act.number) {
+        if is_opening(words.letter, act.number()) {
             return Place { at, state };
         }
         at = read.next;
-        let next = act.state;
-        state = next;
+        state = act.state;
     }
     Place { at, state }
 }
@@ -78,19 +83,15 @@ fn put(tape: &mut [u32], f: Filled, letter: u8, count: usize, numbers: [u16; 20]
     ensures value { result ≡ after_put f (put_line (length tape.old) f.entries letter (take count numbers)) }
     ensures tape_after { tape.new ≡ tape_after f.entries letter (take count numbers) tape.old }
 {
-    let used = commons::smaller(count, 20);
+    let used = count.min(20);
     match tape::put_line(tape, f.entries, letter, &numbers[..used]) {
-        Put::Denied(_) => Filled {
-            entries: f.entries,
-            is_whole: false,
-        },
-        Put::NoRoom => Filled {
-            entries: f.entries,
-            is_whole: false,
-        },
-        Put::Laid(entries) => Filled {
+        Ok(entries) => Filled {
             entries,
             is_whole: true,
+        },
+        Err(_) => Filled {
+            entries: f.entries,
+            is_whole: false,
         },
     }
 }
@@ -119,6 +120,7 @@ fn fill(
     ensures value { result ≡ closed_with (next_table script.now from stood) key (laid_all (taped first tape.old) (lines_until stood (words_from script.now from))).filled }
     ensures tape_after { tape.new ≡ (laid_all (taped first tape.old) (lines_until stood (words_from script.now from))).tape }
 {
+    // By hand: the place moves by what was read there.
     let mut at = from;
     let mut state = stood;
     let mut f = first;
@@ -126,20 +128,21 @@ fn fill(
         let read = reader::read_line(script, at);
         let words = read.words;
         let act = act::obey(words, state);
-        if is_opening(words.letter, act.number) {
+        let number = act.number();
+        if is_opening(words.letter, number) {
             break;
         }
-        let more = lay(is_line(words.letter, act.number), tape, f, words);
-        f = more;
+        f = lay(is_line(words.letter, number), tape, f, words);
         at = read.next;
-        let next = act.state;
-        state = next;
+        state = act.state;
     }
-    Taken {
-        found: true,
+    let hand = HandTaken {
         key,
         entries: f.entries,
         is_whole: f.is_whole,
+    };
+    Taken {
+        hand: Some(hand),
         at,
         state,
     }
@@ -155,10 +158,7 @@ pub fn next_hand(script: &[u8], at: usize, state: State, tape: &mut [u32]) -> Ta
     let stood = p.state;
     if script.len() <= from {
         return Taken {
-            found: false,
-            key: keys::NONE,
-            entries: 0,
-            is_whole: true,
+            hand: None,
             at: from,
             state: stood,
         };

@@ -1,100 +1,58 @@
-// What a line says is held against what our functions answer. Where it says something else, the next place is nowhere.
-use crate::reading::NOWHERE;
-use crate::{reading, words};
+// What a line says is held against what our functions answer.
+use crate::reading::{Mark, Token, Tokens, Word};
+use crate::words;
 
-// What stands for an answer in a line that only loads something.
-pub const LOADED: u8 = 63;
-
-// Our answer, 0 or the number of a refusal, and the place up to which the line says the same.
+// What a line that agrees says: an answer, a refusal by its number, or what it loads.
 #[derive(Clone, Copy)]
-pub struct Told {
-    pub answer: u8,
-    pub next: usize,
+pub enum Answer {
+    Given,
+    Refused(u8),
+    Loaded,
 }
 
-// What agrees with no line.
-pub fn no_match() -> Told {
-    Told {
-        answer: 0,
-        next: NOWHERE,
+// Where a line that loads something is counted, behind the refusals.
+const LOADED: u8 = 63;
+
+impl From<Answer> for u8 {
+    fn from(answer: Answer) -> u8 {
+        match answer {
+            Answer::Given => 0,
+            Answer::Refused(number) => number,
+            Answer::Loaded => LOADED,
+        }
     }
 }
 
-pub fn same_number(line: &[u8], at: usize, ours: usize) -> usize {
-    let n = reading::read_number(line, at);
-    if n.value == ours { n.next } else { NOWHERE }
-}
-
-pub fn same_flag(line: &[u8], at: usize, ours: bool) -> usize {
-    if ours {
-        same_number(line, at, 1)
-    } else {
-        same_number(line, at, 0)
+impl From<u8> for Answer {
+    fn from(number: u8) -> Answer {
+        match number {
+            0 => Answer::Given,
+            LOADED => Answer::Loaded,
+            _ => Answer::Refused(number),
+        }
     }
 }
 
-pub fn same_float(line: &[u8], at: usize, ours: f32) -> usize {
-    let w = reading::read_word(line, at);
-    if words::is_same_float(w.value, words::word_of(ours)) {
-        w.next
-    } else {
-        NOWHERE
-    }
+// The line says a float: any of the zeros, any of the NaNs.
+pub fn says_float(line: &mut Tokens, ours: f32) -> Option<()> {
+    let Word(said) = line.read()?;
+    words::is_same_float(said, words::word_of(ours)).then_some(())
 }
 
-// A float with the same bits: of two zeros each is itself.
-fn same_bits(line: &[u8], at: usize, ours: f32) -> usize {
-    let w = reading::read_word(line, at);
-    if w.value == words::word_of(ours) {
-        w.next
-    } else {
-        NOWHERE
-    }
-}
-
-fn same_mark(line: &[u8], at: usize, byte: u8) -> usize {
-    let m = reading::read_mark(line, at);
-    if m.byte == byte { m.next } else { NOWHERE }
-}
-
-// The place of the answer.
-pub fn answered(line: &[u8], at: usize) -> usize {
-    same_mark(line, at, b'=')
+// The place of an answer that is given.
+pub fn answered(line: &mut Tokens) -> Option<()> {
+    line.says(Mark(b'='))
 }
 
 // A line whose answer is one value.
-pub fn told_number(line: &[u8], at: usize, ours: usize) -> Told {
-    Told {
-        answer: 0,
-        next: same_number(line, answered(line, at), ours),
-    }
+pub fn given<T: Token + PartialEq + Drop>(line: &mut Tokens, ours: T) -> Option<Answer> {
+    answered(line)?;
+    line.says(ours)?;
+    Some(Answer::Given)
 }
 
-pub fn told_flag(line: &[u8], at: usize, ours: bool) -> Told {
-    Told {
-        answer: 0,
-        next: same_flag(line, answered(line, at), ours),
-    }
-}
-
-pub fn told_bits(line: &[u8], at: usize, ours: f32) -> Told {
-    Told {
-        answer: 0,
-        next: same_bits(line, answered(line, at), ours),
-    }
-}
-
-pub fn refused(line: &[u8], at: usize, number: u8) -> Told {
-    Told {
-        answer: number,
-        next: same_number(line, same_mark(line, at, b'!'), number as usize),
-    }
-}
-
-// An answer that is given, whose values the line says up to a place, or the number of a refusal.
-pub fn told_answer(line: &[u8], at: usize, number: u8, next: usize) -> Told {
-    if number == 0 {
-        return Told { answer: 0, next };
-    }
-    refused(line, at, number)
+pub fn refused(line: &mut Tokens, number: u8) -> Option<Answer> {
+    line.says(Mark(b'!'))?;
+    line.says(number)?;
+    Some(Answer::Refused(number))
 }

@@ -1,334 +1,192 @@
 // The list of GameStateBuilder.
-use crate::agreeing::Told;
-use crate::reading::NOWHERE;
+use crate::agreeing::Answer;
+use crate::lists::List;
+use crate::reading::{Mark, Tokens};
 use crate::words::Words;
-use crate::{agreeing, changes, inputs, key_words, reading, table_words, words};
+use crate::{agreeing, changes, inputs, table_words, words};
 use builder::{BuildStep, GameStateBuilder};
 use keys::HandKey;
 use layout::words::{round_at, sixteen_at, word_of};
+use refusals::Refusal;
 use rounds::RoundData;
-use table::GameState;
 
-// Whether a field is given, and the place after its letter or its dash.
-#[derive(Clone, Copy)]
-struct Given {
-    is_given: bool,
-    next: usize,
+#[derive(Drop)]
+pub struct Builds {
+    pub table: Words,
 }
 
-// Round data and the place after it.
-#[derive(Clone, Copy)]
-struct Data {
-    value: RoundData,
-    next: usize,
-}
-
-// A builder with the fields before a place.
-#[derive(Clone, Copy)]
-struct Making {
-    builder: GameStateBuilder,
-    next: usize,
-}
-
-fn read_given(line: &[u8], at: usize, letter: u8) -> Given {
-    let m = reading::read_mark(line, at);
-    if m.byte == letter {
-        return Given {
-            is_given: true,
-            next: m.next,
-        };
+// Whether a field is given: its letter stands, or a dash.
+fn is_given(line: &mut Tokens, letter: u8) -> Option<bool> {
+    let Mark(mark) = line.read()?;
+    if mark == letter {
+        return Some(true);
     }
-    if m.byte == b'-' {
-        return Given {
-            is_given: false,
-            next: m.next,
-        };
+    if mark == b'-' {
+        return Some(false);
     }
-    Given {
-        is_given: false,
-        next: NOWHERE,
-    }
+    None
 }
 
-// The first cards of a list of so many; the place after them.
-fn read_cards(line: &[u8], at: usize, count: usize, list: &mut [u8; 64]) -> usize {
-    let mut next = at;
-    for i in 0..64 {
-        if i < count {
-            let c = inputs::read_small(line, next);
-            list[i] = c.value;
-            next = c.next;
+// The stacks stand in one of two forms: so many seats with one stack each, or a list.
+fn with_stacks(line: &mut Tokens, b: GameStateBuilder) -> Option<GameStateBuilder> {
+    let Mark(mark) = line.read()?;
+    match mark {
+        b'W' => {
+            let players: usize = line.read()?;
+            let stack: f32 = line.read()?;
+            Some(b.num_players_with_stack(players, stack))
         }
-    }
-    next
-}
-
-// The stacks and the hand's bets, each a list of amounts.
-fn with_list(b: GameStateBuilder, letter: u8, list: &[f32]) -> GameStateBuilder {
-    if letter == b'S' {
-        return b.stacks(list);
-    }
-    b.player_bet(list)
-}
-
-fn with_amounts(
-    b: GameStateBuilder,
-    letter: u8,
-    list: [f32; 64],
-    count: usize,
-) -> GameStateBuilder {
-    if count < 64 {
-        return with_list(b, letter, &list[0..count]);
-    }
-    with_list(b, letter, &list)
-}
-
-fn make_amounts(line: &[u8], m: Making, letter: u8) -> Making {
-    let g = read_given(line, m.next, letter);
-    let b = m.builder;
-    if g.is_given {
-        let len = reading::read_number(line, g.next);
-        let mut list: [f32; 64] = [0.0; 64];
-        let next = inputs::read_amounts(line, len.next, len.value, &mut list);
-        return Making {
-            builder: with_amounts(b, letter, list, len.value),
-            next,
-        };
-    }
-    Making {
-        builder: b,
-        next: g.next,
-    }
-}
-
-// So many seats with one stack each.
-fn make_same_stacks(line: &[u8], b: GameStateBuilder, at: usize) -> Making {
-    let n = reading::read_number(line, at);
-    let x = inputs::read_amount(line, n.next);
-    Making {
-        builder: b.num_players_with_stack(n.value, x.value),
-        next: x.next,
-    }
-}
-
-// The stacks stand in one of two forms.
-fn make_stacks(line: &[u8], m: Making) -> Making {
-    let same = reading::read_mark(line, m.next);
-    if same.byte == b'W' {
-        return make_same_stacks(line, m.builder, same.next);
-    }
-    make_amounts(line, m, b'S')
-}
-
-// The blinds and the ante, each one amount.
-fn with_amount(b: GameStateBuilder, letter: u8, x: f32) -> GameStateBuilder {
-    if letter == b'G' {
-        return b.big_blind(x);
-    }
-    if letter == b'M' {
-        return b.small_blind(x);
-    }
-    b.ante(x)
-}
-
-fn make_amount(line: &[u8], m: Making, letter: u8) -> Making {
-    let g = read_given(line, m.next, letter);
-    let b = m.builder;
-    if g.is_given {
-        let x = inputs::read_amount(line, g.next);
-        return Making {
-            builder: with_amount(b, letter, x.value),
-            next: x.next,
-        };
-    }
-    Making {
-        builder: b,
-        next: g.next,
-    }
-}
-
-// The dealer, the round and the count of hands, each one number.
-fn with_number(b: GameStateBuilder, letter: u8, n: usize) -> GameStateBuilder {
-    if letter == b'D' {
-        return b.dealer_idx(n);
-    }
-    if letter == b'O' {
-        return b.round(round_at(&[word_of(n)], 0));
-    }
-    b.hands(n)
-}
-
-fn make_number(line: &[u8], m: Making, letter: u8) -> Making {
-    let g = read_given(line, m.next, letter);
-    let b = m.builder;
-    if g.is_given {
-        let n = reading::read_number(line, g.next);
-        return Making {
-            builder: with_number(b, letter, n.value),
-            next: n.next,
-        };
-    }
-    Making {
-        builder: b,
-        next: g.next,
-    }
-}
-
-fn make_cap(line: &[u8], m: Making) -> Making {
-    let g = read_given(line, m.next, b'R');
-    let b = m.builder;
-    if g.is_given {
-        let is_capped = inputs::read_flag(line, g.next);
-        if is_capped.value {
-            let cap = inputs::read_small(line, is_capped.next);
-            return Making {
-                builder: b.max_raises_per_round(true, cap.value),
-                next: cap.next,
-            };
+        b'S' => {
+            let count: usize = line.read()?;
+            let mut room: [f32; 64] = [0.0; 64];
+            Some(b.stacks(line.read_into(count, &mut room)?))
         }
-        return Making {
-            builder: b.max_raises_per_round(false, 0),
-            next: is_capped.next,
-        };
-    }
-    Making {
-        builder: b,
-        next: g.next,
+        b'-' => Some(b),
+        _ => None,
     }
 }
 
-fn with_board(b: GameStateBuilder, list: [u8; 64], count: usize) -> GameStateBuilder {
-    if count < 64 {
-        return b.board(&list[0..count]);
+fn with_blinds(line: &mut Tokens, b: GameStateBuilder) -> Option<GameStateBuilder> {
+    let mut b = b;
+    if is_given(line, b'G')? {
+        b = b.big_blind(line.read()?);
     }
-    b.board(&list)
+    if is_given(line, b'M')? {
+        b = b.small_blind(line.read()?);
+    }
+    if is_given(line, b'A')? {
+        b = b.ante(line.read()?);
+    }
+    Some(b)
 }
 
-fn make_board(line: &[u8], m: Making) -> Making {
-    let g = read_given(line, m.next, b'C');
-    let b = m.builder;
-    if g.is_given {
-        let len = reading::read_number(line, g.next);
-        let mut list = [0u8; 64];
-        let next = read_cards(line, len.next, len.value, &mut list);
-        return Making {
-            builder: with_board(b, list, len.value),
-            next,
-        };
-    }
-    Making {
-        builder: b,
-        next: g.next,
-    }
+fn with_cap(line: &mut Tokens, b: GameStateBuilder) -> Option<GameStateBuilder> {
+    let is_capped: bool = line.read()?;
+    let cap: u8 = if is_capped { line.read()? } else { 0 };
+    Some(b.max_raises_per_round(is_capped, cap))
 }
 
-fn sixteen(list: [f32; 64]) -> [f32; 16] {
-    sixteen_at(&list, 0)
+fn with_board(line: &mut Tokens, b: GameStateBuilder) -> Option<GameStateBuilder> {
+    let count: usize = line.read()?;
+    let mut room = [0u8; 64];
+    Some(b.board(line.read_into(count, &mut room)?))
 }
 
-fn read_data(line: &[u8], at: usize) -> Data {
-    let start = inputs::read_seats(line, at);
-    let needs = inputs::read_seats(line, start.next);
-    let min = inputs::read_amount(line, needs.next);
-    let bet = inputs::read_amount(line, min.next);
-    let total = inputs::read_small(line, bet.next);
-    let raise = inputs::read_small(line, total.next);
-    let forced = inputs::read_small(line, raise.next);
-    let to_act = reading::read_number(line, forced.next);
-    let len = reading::read_number(line, to_act.next);
-    let mut list: [f32; 64] = [0.0; 64];
-    let next = inputs::read_amounts(line, len.next, len.value, &mut list);
-    let player_bet = sixteen(list);
-    let starting_player_active = start.value;
-    let needs_action = needs.value;
-    let value = RoundData {
-        starting_player_active,
-        needs_action,
-        min_raise: min.value,
-        bet: bet.value,
-        player_bet,
-        player_bet_len: len.value,
-        total_bet_count: total.value,
-        total_raise_count: raise.value,
-        forced_bet_count: forced.value,
-        to_act_idx: to_act.value,
+// The dealer, the cap on raises, the round, the board and the count of hands.
+fn with_place(line: &mut Tokens, b: GameStateBuilder) -> Option<GameStateBuilder> {
+    let mut b = b;
+    if is_given(line, b'D')? {
+        b = b.dealer_idx(line.read()?);
+    }
+    if is_given(line, b'R')? {
+        b = with_cap(line, b)?;
+    }
+    if is_given(line, b'O')? {
+        b = b.round(round_at(&[word_of(line.read()?)], 0));
+    }
+    if is_given(line, b'C')? {
+        b = with_board(line, b)?;
+    }
+    if is_given(line, b'H')? {
+        b = b.hands(line.read()?);
+    }
+    Some(b)
+}
+
+fn read_data(line: &mut Tokens) -> Option<RoundData> {
+    let mut data = RoundData {
+        starting_player_active: line.read()?,
+        needs_action: line.read()?,
+        min_raise: line.read()?,
+        bet: line.read()?,
+        player_bet: [0.0; 16],
+        player_bet_len: 0,
+        total_bet_count: line.read()?,
+        total_raise_count: line.read()?,
+        forced_bet_count: line.read()?,
+        to_act_idx: line.read()?,
     };
-    Data { value, next }
+    data.player_bet_len = line.read()?;
+    let mut room: [f32; 64] = [0.0; 64];
+    line.read_into(data.player_bet_len, &mut room)?;
+    data.player_bet = sixteen_at(&room, 0);
+    Some(data)
 }
 
-fn make_data(line: &[u8], m: Making) -> Making {
-    let g = read_given(line, m.next, b'Q');
-    let b = m.builder;
-    if g.is_given {
-        let d = read_data(line, g.next);
-        return Making {
-            builder: b.round_data(d.value),
-            next: d.next,
-        };
+// The hand's bets and the round's data.
+fn with_bets(line: &mut Tokens, b: GameStateBuilder) -> Option<GameStateBuilder> {
+    let mut b = b;
+    if is_given(line, b'P')? {
+        let count: usize = line.read()?;
+        let mut room: [f32; 64] = [0.0; 64];
+        b = b.player_bet(line.read_into(count, &mut room)?);
     }
-    Making {
-        builder: b,
-        next: g.next,
+    if is_given(line, b'Q')? {
+        b = b.round_data(read_data(line)?);
     }
+    Some(b)
 }
 
-fn read_builder(line: &[u8], at: usize) -> Making {
-    let none = Making {
-        builder: GameStateBuilder::new(),
-        next: at,
-    };
-    let stacks = make_stacks(line, none);
-    let big = make_amount(line, stacks, b'G');
-    let small = make_amount(line, big, b'M');
-    let ante = make_amount(line, small, b'A');
-    let dealer = make_number(line, ante, b'D');
-    let cap = make_cap(line, dealer);
-    let round = make_number(line, cap, b'O');
-    let board = make_board(line, round);
-    let hands = make_number(line, board, b'H');
-    let bets = make_amounts(line, hands, b'P');
-    make_data(line, bets)
+fn read_builder(line: &mut Tokens) -> Option<GameStateBuilder> {
+    let stacks = with_stacks(line, GameStateBuilder::new())?;
+    let blinds = with_blinds(line, stacks)?;
+    let place = with_place(line, blinds)?;
+    with_bets(line, place)
 }
 
 // A table that is built has the key that was given, a refused build none.
-fn is_keyed(t: GameState, answer: u8, given: HandKey) -> bool {
-    let added = t.added;
-    let key = added.key;
-    if answer == 0 {
-        return key.is_same(given);
+fn is_keyed(step: &BuildStep, given: HandKey) -> bool {
+    let key = step.table.added.key;
+    match step.answer {
+        Ok(()) => key == given,
+        Err(_) => key == keys::NONE,
     }
-    key.is_same(keys::NONE)
 }
 
-fn told_step(line: &[u8], at: usize, key: HandKey, step: BuildStep, table: &mut Words) -> Told {
-    *table = words::ZEROS;
-    let t = step.table;
-    let answer = step.answer;
-    if !is_keyed(t, answer.number(), key) {
-        return agreeing::no_match();
+fn say_built(mut line: Tokens, answer: Result<(), Refusal>) -> Option<Answer> {
+    match answer {
+        Ok(()) => {
+            agreeing::answered(&mut line)?;
+            Some(Answer::Given)
+        }
+        Err(why) => agreeing::refused(&mut line, why.number()),
     }
-    let ours = table_words::of_table(t);
-    let told = agreeing::told_answer(line, at, answer.number(), agreeing::answered(line, at));
-    changes::agree(line, at, 0, told, &ours, false, table)
+}
+
+fn told_step(
+    line: &mut Tokens,
+    key: HandKey,
+    step: BuildStep,
+    table: &mut Words,
+) -> Option<Answer> {
+    if !is_keyed(&step, key) {
+        return None;
+    }
+    let ours = table_words::of_table(step.table);
+    let told = say_built(*line, step.answer);
+    changes::agree(line, 0, told, &ours, false, table)
 }
 
 // A key stands last, and only where one is given. The line says which key the table must have, not the builder that was told it.
-fn ask_builder(line: &[u8], at: usize, table: &mut Words) -> Told {
-    let m = read_builder(line, at);
-    let b = m.builder;
-    let mark = reading::read_mark(line, m.next);
-    if mark.byte == b'K' {
-        let k = key_words::read_key(line, mark.next);
-        let key = k.value;
-        let keyed = b.hand_key(key);
-        return told_step(line, k.next, key, keyed.build(), table);
+fn ask_builder(line: &mut Tokens, table: &mut Words) -> Option<Answer> {
+    *table = words::ZEROS;
+    let b = read_builder(line)?;
+    let mut after = *line;
+    let Mark(mark) = after.read()?;
+    if mark != b'K' {
+        return told_step(line, keys::NONE, b.build(), table);
     }
-    told_step(line, m.next, keys::NONE, b.build(), table)
+    let key = inputs::read_key(&mut after)?;
+    *line = after;
+    told_step(line, key, b.hand_key(key).build(), table)
 }
 
-pub fn ask(letter: u8, line: &[u8], at: usize, table: &mut Words) -> Told {
-    if letter == b'b' {
-        return ask_builder(line, at, table);
+impl List for Builds {
+    fn ask(&mut self, line: &mut Tokens) -> Option<Answer> {
+        let Mark(letter) = line.read()?;
+        match letter {
+            b'b' => ask_builder(line, &mut self.table),
+            _ => None,
+        }
     }
-    agreeing::no_match()
 }

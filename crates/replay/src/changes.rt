@@ -1,89 +1,64 @@
 // The table that a line leaves: the one before it with the line's changes, each a place and a word.
-use crate::agreeing::{LOADED, Told};
-use crate::reading::NOWHERE;
+use crate::agreeing::Answer;
+use crate::reading::{Mark, Tokens, Word};
+use crate::words;
 use crate::words::{WORDS, Words};
-use crate::{agreeing, reading, words};
-
-// Where the changes of a line begin, and the place after them.
-#[derive(Clone, Copy)]
-struct Followed {
-    start: usize,
-    next: usize,
-}
 
 // One change. A word that does not differ from the one before it is malformed.
-fn change(line: &[u8], at: usize, table: &mut Words) -> usize {
-    let place = reading::read_number_to(line, at, b':');
-    let word = reading::read_word(line, place.next);
-    let i = place.value;
-    if i < WORDS {
-        if (word.next < NOWHERE) & (word.value != table[i]) {
-            table[i] = word.value;
-            return word.next;
-        }
+fn change(line: &mut Tokens, table: &mut Words) -> Option<()> {
+    let place: usize = line.read_to(b':')?;
+    let Word(word) = line.read()?;
+    if place < WORDS && word != table[place] {
+        table[place] = word;
+        return Some(());
     }
-    NOWHERE
+    None
 }
 
-// The changes from a place up to the line's end. There are no more than places.
-pub fn change_all(line: &[u8], at: usize, table: &mut Words) -> usize {
-    let mut next = at;
+// The changes up to the line's end. There are no more than places.
+pub fn change_all(line: &mut Tokens, table: &mut Words) -> Option<()> {
+    // Each change takes a place at least: no measure is needed.
     for _ in 0..WORDS {
-        if next < line.len() {
-            next = change(line, next, table);
+        if !line.has_more() {
+            break;
         }
+        change(line, table)?;
     }
-    next
+    Some(())
 }
 
-// The list's own table after a line whose mark is at a place: so many values stand before the changes. A refusal has its
-// number and nothing else.
-fn follow(line: &[u8], at: usize, values: usize, table: &mut Words) -> Followed {
-    let m = reading::read_mark(line, at);
-    if m.byte == b'!' {
-        let end = reading::skip(line, m.next);
-        return Followed {
-            start: end,
-            next: end,
-        };
+// The list's own table after a line whose answer is next: so many values stand before the changes. A refusal has its number and
+// nothing else.
+fn follow(line: &mut Tokens, values: usize, table: &mut Words) -> Option<()> {
+    let Mark(mark) = line.read()?;
+    if mark == b'!' {
+        return line.skip();
     }
-    let start = reading::skip_all(line, m.next, values);
-    Followed {
-        start,
-        next: change_all(line, start, table),
+    // So many values stand in the line, one behind the other; the line's own place counts them.
+    for _ in 0..values {
+        line.skip()?;
     }
+    change_all(line, table)
 }
 
-// What we tell of a line whose mark is at a place, with our table after it, is held against the line and the list's own table.
-// Two zeros differ where the tables are held by their bits.
+// What we tell of a line whose answer is next, with our table after it, is held against the line and the list's own table, which
+// follows the line in any case. Two zeros differ where the tables are held by their bits.
 pub fn agree(
-    line: &[u8],
-    at: usize,
+    line: &mut Tokens,
     values: usize,
-    told: Told,
+    told: Option<Answer>,
     ours: &Words,
     by_bits: bool,
     table: &mut Words,
-) -> Told {
-    let list = follow(line, at, values, table);
-    if told.next == list.start {
-        if words::is_same_table(ours, table, by_bits) {
-            return Told {
-                answer: told.answer,
-                next: list.next,
-            };
-        }
+) -> Option<Answer> {
+    follow(line, values, table)?;
+    if words::is_same_table(ours, table, by_bits) {
+        return told;
     }
-    agreeing::no_match()
+    None
 }
 
 // A line that loads a table agrees where our words of what it loads are its own.
-pub fn agree_loaded(next: usize, ours: &Words, table: &Words) -> Told {
-    if words::is_same_table(ours, table, false) {
-        return Told {
-            answer: LOADED,
-            next,
-        };
-    }
-    agreeing::no_match()
+pub fn agree_loaded(ours: &Words, table: &Words) -> Option<Answer> {
+    words::is_same_table(ours, table, false).then_some(Answer::Loaded)
 }

@@ -1,27 +1,36 @@
 // The list of the helpers on floats. Their answers are held to it bit for bit.
-use crate::agreeing::Told;
-use crate::{agreeing, inputs};
+use crate::agreeing::Answer;
+use crate::lists::List;
+use crate::reading::{Mark, Tokens, Word};
+use crate::{agreeing, words};
 
-// A letter that asks with two floats.
-fn ask_two(letter: u8, line: &[u8], at: usize) -> Told {
-    let a = inputs::read_amount(line, at);
-    let b = inputs::read_amount(line, a.next);
-    if letter == b'x' {
-        agreeing::told_bits(line, b.next, floats::max(a.value, b.value))
-    } else {
-        agreeing::told_bits(line, b.next, floats::min(a.value, b.value))
-    }
+#[derive(Drop)]
+pub struct Floats;
+
+// A float with the same bits: of two zeros each is itself.
+fn given_bits(line: &mut Tokens, ours: f32) -> Option<Answer> {
+    agreeing::given(line, Word(words::word_of(ours)))
 }
 
-pub fn ask(letter: u8, line: &[u8], at: usize) -> Told {
-    let x = inputs::read_amount(line, at);
-    match letter {
-        b'x' | b'm' => ask_two(letter, line, at),
-        b't' => agreeing::told_bits(line, x.next, floats::tol(x.value)),
-        b'a' => agreeing::told_bits(line, x.next, floats::abs(x.value)),
-        b's' => agreeing::told_flag(line, x.next, floats::is_sign_negative(x.value)),
-        b'n' => agreeing::told_flag(line, x.next, floats::is_nan(x.value)),
-        b'z' => agreeing::told_flag(line, x.next, floats::is_near_zero(x.value)),
-        _ => agreeing::no_match(),
+impl List for Floats {
+    fn ask(&mut self, line: &mut Tokens) -> Option<Answer> {
+        let Mark(letter) = line.read()?;
+        let x: f32 = line.read()?;
+        match letter {
+            b'x' => {
+                let y: f32 = line.read()?;
+                given_bits(line, floats::max(x, y))
+            }
+            b'm' => {
+                let y: f32 = line.read()?;
+                given_bits(line, floats::min(x, y))
+            }
+            b't' => given_bits(line, floats::tol(x)),
+            b'a' => given_bits(line, floats::abs(x)),
+            b's' => agreeing::given(line, floats::is_sign_negative(x)),
+            b'n' => agreeing::given(line, floats::is_nan(x)),
+            b'z' => agreeing::given(line, floats::is_near_zero(x)),
+            _ => None,
+        }
     }
 }

@@ -1,122 +1,88 @@
-// The bytes of an image, changed and moved.
-use crate::agreeing::Told;
-use crate::cases::Case;
-use crate::journal_case::{BYTES, Image, LENGTH};
-use crate::reading::NOWHERE;
-use crate::{agreeing, journal_case, reading};
+// The bytes of an image, changed and moved. What a line says malformed stands for 0, and the line differs.
+use crate::agreeing::Answer;
+use crate::journal_hand::{BLOCK, BLOCKS, Hand};
+use crate::reading::Tokens;
 
-pub type Block = [u8; 512];
+pub type Block = [u8; BLOCK];
 
-// The most blocks that an image has.
-const BLOCKS: usize = 256;
-
-// A block of some bytes; zeros where there is none.
-pub fn block_at(bytes: &[u8], i: usize) -> Block {
-    let mut block = [0u8; 512];
-    if i < BLOCKS {
-        commons::copying::copy_u8(&mut block, 0, bytes, i * 512, 512);
-    }
-    block
+// A block that stands.
+pub fn block_at(bytes: &[u8], i: usize) -> Option<Block> {
+    let rest = bytes.get(i.checked_mul(BLOCK)?..)?;
+    rest.first_chunk::<BLOCK>().copied()
 }
 
 // A block over another, or behind the last: what is missing before it is zeros.
-pub fn put_block(image: &mut Image, case: &mut Case, i: usize, block: &Block) {
-    if i < BLOCKS {
-        let at = i * 512;
-        let end = at + 512;
-        if case[LENGTH] < end {
-            journal_case::resize(image, case, end);
-        }
-        commons::copying::copy_u8(image, at, block, 0, 512);
+pub fn put_block(hand: &mut Hand, i: usize, block: &Block) -> Option<()> {
+    if BLOCKS <= i {
+        return None;
     }
-}
-
-// The place after a token that ends there.
-fn after(line: &[u8], at: usize) -> usize {
-    if at <= line.len() {
-        if reading::find(line, at, b' ') == at {
-            return at + 1;
-        }
+    let at = i * BLOCK;
+    let end = at + BLOCK;
+    if hand.length < end {
+        hand.resize(end);
     }
-    NOWHERE
+    hand.image[at..end].copy_from_slice(block);
+    Some(())
 }
 
 // The bytes of a block in hex.
-pub fn read_block(line: &[u8], at: usize, block: &mut Block) -> usize {
-    let mut next = at;
-    for i in 0..512 {
-        let b = reading::read_byte(line, next);
-        block[i] = b.byte;
-        next = b.next;
+pub fn read_block(line: &mut Tokens) -> Block {
+    let mut block = [0u8; BLOCK];
+    for byte in &mut block {
+        *byte = line.hex().unwrap_or(0);
     }
-    after(line, next)
+    line.end();
+    block
 }
 
 // One byte of those that stand gets another value; the same value is malformed.
-fn change(line: &[u8], at: usize, image: &mut Image, length: usize) -> usize {
-    let place = reading::read_number_to(line, at, b':');
-    let byte = reading::read_byte(line, place.next);
-    let i = place.value;
-    if i < commons::smaller(length, BYTES) {
-        if byte.byte != image[i] {
-            image[i] = byte.byte;
-            return after(line, byte.next);
-        }
+fn change(line: &mut Tokens, hand: &mut Hand) -> Option<()> {
+    let place: usize = line.read_to(b':').unwrap_or(0);
+    let said = line.hex().unwrap_or(0);
+    let byte = hand.bytes_mut().get_mut(place)?;
+    if *byte == said {
+        return None;
     }
-    NOWHERE
+    *byte = said;
+    line.end()
 }
 
 // The changes of a line.
-pub fn change_all(line: &[u8], at: usize, image: &mut Image, length: usize) -> Told {
-    let mut next = at;
+pub fn change_all(line: &mut Tokens, hand: &mut Hand) -> Option<Answer> {
+    // each change takes a byte at least: no measure is needed
     for _ in 0..line.len() {
-        if next < line.len() {
-            next = change(line, next, image, length);
+        if !line.has_more() {
+            break;
         }
+        change(line, hand)?;
     }
-    journal_case::loaded(next)
-}
-
-// How many whole blocks stand.
-fn blocks_of(case: &Case) -> usize {
-    case[LENGTH] / 512
+    Some(Answer::Loaded)
 }
 
 // Two blocks that stand change places.
-pub fn swap(line: &[u8], at: usize, image: &mut Image, case: &mut Case) -> Told {
-    let one = reading::read_number(line, at);
-    let other = reading::read_number(line, one.next);
-    let blocks = blocks_of(case);
-    if (one.value < blocks) & (other.value < blocks) {
-        let first = block_at(image, one.value);
-        let second = block_at(image, other.value);
-        put_block(image, case, one.value, &second);
-        put_block(image, case, other.value, &first);
-        return journal_case::loaded(other.next);
-    }
-    agreeing::no_match()
+pub fn swap(line: &mut Tokens, hand: &mut Hand) -> Option<Answer> {
+    let one: usize = line.read().unwrap_or(0);
+    let other: usize = line.read().unwrap_or(0);
+    let first = block_at(hand.bytes(), one)?;
+    let second = block_at(hand.bytes(), other)?;
+    put_block(hand, one, &second)?;
+    put_block(hand, other, &first)?;
+    Some(Answer::Loaded)
 }
 
 // A block that stands is put over another, or behind the last.
-pub fn repeat(line: &[u8], at: usize, image: &mut Image, case: &mut Case) -> Told {
-    let from = reading::read_number(line, at);
-    let to = reading::read_number(line, from.next);
-    if (from.value < blocks_of(case)) & (to.value < BLOCKS) {
-        let block = block_at(image, from.value);
-        put_block(image, case, to.value, &block);
-        return journal_case::loaded(to.next);
-    }
-    agreeing::no_match()
+pub fn repeat(line: &mut Tokens, hand: &mut Hand) -> Option<Answer> {
+    let from: usize = line.read().unwrap_or(0);
+    let to: usize = line.read().unwrap_or(0);
+    let block = block_at(hand.bytes(), from)?;
+    put_block(hand, to, &block)?;
+    Some(Answer::Loaded)
 }
 
 // A block that the line says is put over one, or behind the last.
-pub fn lay(line: &[u8], at: usize, image: &mut Image, case: &mut Case) -> Told {
-    let to = reading::read_number(line, at);
-    let mut block = [0u8; 512];
-    let next = read_block(line, to.next, &mut block);
-    if to.value < BLOCKS {
-        put_block(image, case, to.value, &block);
-        return journal_case::loaded(next);
-    }
-    agreeing::no_match()
+pub fn lay(line: &mut Tokens, hand: &mut Hand) -> Option<Answer> {
+    let to: usize = line.read().unwrap_or(0);
+    let block = read_block(line);
+    put_block(hand, to, &block)?;
+    Some(Answer::Loaded)
 }

@@ -1,76 +1,54 @@
 // A list's lines are judged: those that agree are counted by their letter and answer, the first that differs is shown.
-use crate::agreeing::Told;
+use crate::agreeing::Answer;
+use crate::counting;
 use crate::counting::Counts;
-use crate::lines::{Line, Lines};
 use crate::printing::{print, print_number};
-use crate::{counting, reading};
 
-// The lines so far, and how many of them differ.
+// The lines so far, how many of them differ, and what the others answered.
 #[derive(Clone, Copy)]
 pub struct Tally {
-    pub lines: u32,
-    pub different: u32,
+    lines: u32,
+    different: u32,
+    counts: Counts,
 }
 
-fn differs(rt: &HostRuntime, name: &[u8], line: &[u8], s: Tally) -> Tally {
-    if s.different == 0 {
-        print(rt, name);
-        print(rt, b" differs at line ");
-        print_number(rt, counting::up(s.lines));
-        print(rt, b": ");
-        print(rt, line);
-        print(rt, b"\n");
-    }
-    Tally {
-        lines: counting::up(s.lines),
-        different: counting::up(s.different),
-    }
-}
-
-fn judge(
-    rt: &HostRuntime,
-    name: &[u8],
-    line: &[u8],
-    told: Told,
-    counts: &mut Counts,
-    s: Tally,
-) -> Tally {
-    if told.next == reading::end_of(line) {
-        counting::count(line, told.answer, counts);
-        return Tally {
-            lines: counting::up(s.lines),
-            different: s.different,
-        };
-    }
-    differs(rt, name, line, s)
-}
-
-// What our functions tell of the line that was read, if one is whole.
-pub fn take(
-    rt: &HostRuntime,
-    name: &[u8],
-    line: &Line,
-    l: Lines,
-    told: Told,
-    counts: &mut Counts,
-    s: Tally,
-) -> Tally {
-    let len = l.len;
-    let all = &line[..];
-    if l.is_whole {
-        if len <= all.len() {
-            return judge(rt, name, &all[0..len], told, counts, s);
+impl Tally {
+    pub fn new() -> Tally {
+        Tally {
+            lines: 0,
+            different: 0,
+            counts: counting::NO_COUNTS,
         }
     }
-    s
-}
 
-pub fn print_all(rt: &HostRuntime, name: &[u8], counts: &Counts, s: Tally) {
-    print(rt, name);
-    print(rt, b" ");
-    print_number(rt, s.lines);
-    print(rt, b" lines, ");
-    print_number(rt, s.different);
-    print(rt, b" different\n");
-    counting::print_counts(rt, counts);
+    // What our functions tell of a line, none where it differs.
+    pub fn judge(&mut self, rt: &HostRuntime, name: &[u8], line: &[u8], told: Option<Answer>) {
+        self.lines = self.lines.saturating_add(1);
+        match told {
+            Some(answer) => counting::count(line, answer, &mut self.counts),
+            None => self.differs(rt, name, line),
+        }
+    }
+
+    fn differs(&mut self, rt: &HostRuntime, name: &[u8], line: &[u8]) {
+        if self.different == 0 {
+            print(rt, name);
+            print(rt, b" differs at line ");
+            print_number(rt, self.lines);
+            print(rt, b": ");
+            print(rt, line);
+            print(rt, b"\n");
+        }
+        self.different = self.different.saturating_add(1);
+    }
+
+    pub fn print_all(&self, rt: &HostRuntime, name: &[u8]) {
+        print(rt, name);
+        print(rt, b" ");
+        print_number(rt, self.lines);
+        print(rt, b" lines, ");
+        print_number(rt, self.different);
+        print(rt, b" different\n");
+        counting::print_counts(rt, &self.counts);
+    }
 }

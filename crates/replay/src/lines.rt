@@ -6,131 +6,104 @@ use std::fs::File;
 use std::io::{Read, Result};
 
 // The most bytes of a line.
-pub const LONGEST: usize = 4096;
+const LONGEST: usize = 4096;
 
-pub type Line = [u8; LONGEST];
-
-pub const NO_LINE: Line = [0; LONGEST];
-
-pub type Piece = [u8; 65536];
+const UNKNOWN: &[u8] = b"?";
 
 // More turns than a list has lines and pieces.
 pub const TURNS: usize = 1_048_576;
 
-#[derive(Clone, Copy)]
+// The pieces are read by hand: a BufReader takes memory that it may not get, and gives a last line without an end like any other.
+#[derive(Drop)]
 pub struct Lines {
+    file: Result<File>,
+    piece: [u8; 65536],
     // the bytes of the piece, and how many of them are taken
-    pub got: usize,
-    pub at: usize,
-    // the bytes of the line so far, more than the most where it has too many
-    pub len: usize,
-    pub is_whole: bool,
-    pub is_ended: bool,
+    got: usize,
+    at: usize,
+    line: [u8; LONGEST],
+    // the bytes of the line so far, none where it has too many
+    len: Option<usize>,
+    is_ended: bool,
+}
+
+// The bytes of a line with more of them behind, none where they are too many.
+fn longer(line: &mut [u8; LONGEST], len: Option<usize>, more: &[u8]) -> Option<usize> {
+    let len = len?;
+    if len <= LONGEST && more.len() <= LONGEST - len {
+        let end = len + more.len();
+        line[len..end].copy_from_slice(more);
+        return Some(end);
+    }
+    None
 }
 
 impl Lines {
-    pub fn new() -> Lines {
+    pub fn open(rt: &HostRuntime, name: &str) -> Lines {
         Lines {
+            file: File::open(rt, name),
+            piece: [0; 65536],
             got: 0,
             at: 0,
-            len: 0,
-            is_whole: false,
+            line: [0; LONGEST],
+            len: Some(0),
             is_ended: false,
         }
     }
 
-    // A line follows the one that was handed out.
-    fn begun(mut self) -> Lines {
-        if self.is_whole {
-            self.len = 0;
-        }
-        self.is_whole = false;
-        self
+    pub fn is_ended(&self) -> bool {
+        self.is_ended
     }
-}
 
-// The bytes of a line with so many more.
-fn longer(len: usize, n: usize) -> usize {
-    if len <= LONGEST {
-        if n <= LONGEST - len {
-            return len + n;
+    // The line goes on to its end, or to the piece's. It is handed out at its end.
+    fn go_on(&mut self) -> Option<&[u8]> {
+        let rest = self.piece.get(self.at..self.got)?;
+        let n = reading::find(rest, b'\n');
+        let len = longer(&mut self.line, self.len, &rest[..n]);
+        if n < rest.len() {
+            self.at = self.at.saturating_add(n + 1);
+            self.len = Some(0);
+            return match len {
+                Some(len) => self.line.get(..len),
+                None => Some(UNKNOWN),
+            };
         }
+        self.at = self.got;
+        self.len = len;
+        None
     }
-    LONGEST + 1
-}
 
-fn put_unknown(line: &mut Line) -> usize {
-    line[0] = b'?';
-    1
-}
-
-// The line goes on to its end, or to the piece's. After the piece's own bytes stand those of an earlier one.
-fn go_on(piece: &Piece, line: &mut Line, l: Lines) -> Lines {
-    let at = l.at;
-    let got = l.got;
-    let end = commons::smaller(reading::find(piece, at, b'\n'), got);
-    let n = commons::less(end, at);
-    commons::copying::copy_u8(line, l.len, piece, at, n);
-    let mut next = l;
-    next.at = end;
-    next.len = longer(l.len, n);
-    if end < got {
-        next.at = end + 1;
-        next.is_whole = true;
-        if LONGEST < next.len {
-            next.len = put_unknown(line);
+    // From a file that was not opened nothing is read.
+    fn read(&mut self) -> Result<usize> {
+        match &mut self.file {
+            Ok(open) => open.read(&mut self.piece),
+            Err(error) => Err(*error),
         }
     }
-    next
-}
 
-// From a file that was not opened nothing is read.
-fn read(file: &mut Result<File>, piece: &mut Piece) -> Result<usize> {
-    match file {
-        Ok(open) => open.read(piece),
-        Err(error) => Err(*error),
-    }
-}
-
-// The next piece. Where there is none, the list is at its end.
-fn fill(
-    rt: &HostRuntime,
-    file: &mut Result<File>,
-    piece: &mut Piece,
-    line: &mut Line,
-    l: Lines,
-) -> Lines {
-    let got = read(file, piece);
-    let mut next = l;
-    if let Ok(n) = got {
-        if 0 < n {
-            next.got = n;
-            next.at = 0;
-            return next;
+    // The next piece. Where there is none, the list is at its end.
+    fn fill(&mut self, rt: &HostRuntime) -> Option<&[u8]> {
+        match self.read() {
+            Ok(0) => {}
+            Ok(n) => {
+                self.got = n;
+                self.at = 0;
+                return None;
+            }
+            Err(_) => print(rt, b"what follows cannot be read\n"),
         }
+        self.is_ended = true;
+        if self.len == Some(0) {
+            return None;
+        }
+        Some(UNKNOWN)
     }
-    if got.is_err() {
-        print(rt, b"what follows cannot be read\n");
-    }
-    if 0 < l.len {
-        next.len = put_unknown(line);
-        next.is_whole = true;
-    }
-    next.is_ended = true;
-    next
-}
 
-// A piece is read, or a line goes on in it.
-pub fn turn(
-    rt: &HostRuntime,
-    file: &mut Result<File>,
-    piece: &mut Piece,
-    line: &mut Line,
-    l: Lines,
-) -> Lines {
-    let next = l.begun();
-    if l.at < l.got {
-        return go_on(piece, line, next);
+    // A piece is read, or a line goes on in it. The line that is whole then, if one is.
+    pub fn turn(&mut self, rt: &HostRuntime) -> Option<&[u8]> {
+        if self.at < self.got {
+            return self.go_on();
+        }
+        self.fill(rt)
     }
-    fill(rt, file, piece, line, next)
 }

@@ -1,16 +1,16 @@
 // A line that loads a table.
-use crate::agreeing::Told;
+use crate::agreeing::Answer;
+use crate::reading::Tokens;
 use crate::words::Words;
-use crate::{agreeing, changes, table_words, words};
+use crate::{changes, table_words, words};
 
 // A table, sound or not, that is loaded: our words of it are the line's.
-pub fn load(line: &[u8], at: usize, is_sound: bool, table: &mut Words) -> Told {
+pub fn load(line: &mut Tokens, is_sound: bool, table: &mut Words) -> Option<Answer> {
     *table = words::ZEROS;
-    let next = changes::change_all(line, at, table);
+    changes::change_all(line, table)?;
     let t = table_words::table_at(table);
     if t.is_sound() != is_sound {
-        return agreeing::no_match();
+        return None;
     }
-    let ours = table_words::of_table(t);
-    changes::agree_loaded(next, &ours, table)
+    changes::agree_loaded(&table_words::of_table(t), table)
 }

@@ -4,20 +4,18 @@
 
 mod agreeing;
 mod build_lines;
-mod cases;
 mod changes;
 mod counting;
 mod decoding;
 mod float_lines;
 mod inputs;
-mod journal_case;
 mod journal_entries;
+mod journal_hand;
 mod journal_image;
 mod journal_lines;
 mod journal_reading;
 mod journal_writing;
 mod judging;
-mod key_words;
 mod lines;
 mod lists;
 mod loading;
@@ -32,15 +30,23 @@ mod step_lines;
 mod table_words;
 mod words;
 
-use lists::List;
+use build_lines::Builds;
+use float_lines::Floats;
+use journal_lines::Journals;
+use round_lines::Rounds;
+use script_lines::Scripts;
+use seat_lines::Seats;
+use settle_lines::Settlements;
+use step_lines::Steps;
+use words::ZEROS;
 
 fn main(rt: HostRuntime) {
-    lists::replay(&rt, "seats", List::Seats);
-    lists::replay(&rt, "floats", List::Floats);
-    lists::replay(&rt, "rounds", List::Rounds);
-    lists::replay(&rt, "builds", List::Builds);
-    lists::replay(&rt, "steps", List::Steps);
-    lists::replay(&rt, "settlements", List::Settlements);
-    lists::replay(&rt, "scripts", List::Scripts);
-    lists::replay(&rt, "journals", List::Journals);
+    lists::replay(&rt, "seats", &mut Seats);
+    lists::replay(&rt, "floats", &mut Floats);
+    lists::replay(&rt, "rounds", &mut Rounds { table: ZEROS });
+    lists::replay(&rt, "builds", &mut Builds { table: ZEROS });
+    lists::replay(&rt, "steps", &mut Steps { table: ZEROS });
+    lists::replay(&rt, "settlements", &mut Settlements { table: ZEROS });
+    lists::replay(&rt, "scripts", &mut Scripts::new());
+    lists::replay(&rt, "journals", &mut Journals::new());
 }

@@ -1,94 +1,84 @@
 // The list of PlayerBitSet.
-use crate::agreeing::Told;
-use crate::{agreeing, inputs, reading};
-use seats::{NextSeat, PlayerBitSet, SeatAnswer, SeatStep, SetAnswer, SetStep};
+use crate::agreeing;
+use crate::agreeing::Answer;
+use crate::lists::List;
+use crate::reading::{Mark, Tokens};
+use seats::{PlayerBitSet, SeatStep, SetStep};
+
+#[derive(Drop)]
+pub struct Seats;
 
 // A set that is given without fail.
-fn told_set(line: &[u8], at: usize, ours: PlayerBitSet) -> Told {
-    agreeing::told_number(line, at, ours.set as usize)
+fn told_set(line: &mut Tokens, ours: PlayerBitSet) -> Option<Answer> {
+    agreeing::given(line, ours.set)
 }
 
 // A set that is made, or the set before it that stays.
-fn told_step(line: &[u8], at: usize, before: u16, step: SetStep) -> Told {
+fn told_step(line: &mut Tokens, before: u16, step: SetStep) -> Option<Answer> {
     let answer = step.answer;
     match answer {
-        SetAnswer::Made => told_set(line, at, step.set),
-        SetAnswer::Refused(why) => {
-            if step.set.set == before {
-                agreeing::refused(line, at, why.number())
-            } else {
-                agreeing::no_match()
-            }
-        }
+        Ok(()) => told_set(line, step.set),
+        Err(why) if step.set.set == before => agreeing::refused(line, why.number()),
+        Err(_) => None,
     }
 }
 
-fn told_seat(line: &[u8], at: usize, before: u16, step: SeatStep) -> Told {
+fn told_seat(line: &mut Tokens, before: u16, step: SeatStep) -> Option<Answer> {
     if step.set.set != before {
-        return agreeing::no_match();
+        return None;
     }
     let answer = step.answer;
     match answer {
-        SeatAnswer::Is(is_in) => agreeing::told_flag(line, at, is_in),
-        SeatAnswer::NoSeat(why) => agreeing::refused(line, at, why.number()),
+        Ok(is_in) => agreeing::given(line, is_in),
+        Err(why) => agreeing::refused(line, why.number()),
     }
 }
 
-fn new(line: &[u8], at: usize) -> Told {
-    let n = reading::read_number(line, at);
-    told_step(line, n.next, 0, PlayerBitSet::new(n.value))
-}
-
-fn count(line: &[u8], at: usize) -> Told {
-    let s = inputs::read_seats(line, at);
-    let set = s.value;
-    let counted = agreeing::same_number(line, agreeing::answered(line, s.next), set.count());
-    Told {
-        answer: 0,
-        next: agreeing::same_flag(line, counted, set.empty()),
-    }
-}
-
-// A seat, or 16 where none is left.
-fn seat_number(seat: NextSeat) -> usize {
-    match seat {
-        NextSeat::At(i) => i,
-        NextSeat::NoMore => 16,
-    }
+fn count(line: &mut Tokens) -> Option<Answer> {
+    let set: PlayerBitSet = line.read()?;
+    agreeing::answered(line)?;
+    line.says(set.count())?;
+    line.says(set.empty())?;
+    Some(Answer::Given)
 }
 
 // A letter that asks with a set and a seat.
-fn ask_seat(letter: u8, line: &[u8], at: usize) -> Told {
-    let s = inputs::read_seats(line, at);
-    let i = reading::read_number(line, s.next);
-    let set = s.value;
+fn ask_seat(letter: u8, line: &mut Tokens) -> Option<Answer> {
+    let set: PlayerBitSet = line.read()?;
+    let seat: usize = line.read()?;
     match letter {
-        b'e' => told_step(line, i.next, set.set, set.enable(i.value)),
-        b'd' => told_step(line, i.next, set.set, set.disable(i.value)),
-        b'g' => told_seat(line, i.next, set.set, set.get(i.value)),
-        _ => agreeing::told_number(line, i.next, seat_number(set.ones(i.value))),
+        b'e' => told_step(line, set.set, set.enable(seat)),
+        b'd' => told_step(line, set.set, set.disable(seat)),
+        b'g' => told_seat(line, set.set, set.get(seat)),
+        // 16 where none is left
+        _ => agreeing::given(line, set.ones(seat).unwrap_or(16)),
     }
 }
 
 // A letter that asks with two sets.
-fn ask_two(letter: u8, line: &[u8], at: usize) -> Told {
-    let a = inputs::read_seats(line, at);
-    let b = inputs::read_seats(line, a.next);
-    let set = a.value;
+fn ask_two(letter: u8, line: &mut Tokens) -> Option<Answer> {
+    let a: PlayerBitSet = line.read()?;
+    let b: PlayerBitSet = line.read()?;
     if letter == b'o' {
-        told_set(line, b.next, set.bitor(b.value))
+        told_set(line, a.bitor(b))
     } else {
-        told_set(line, b.next, set.bitand(b.value))
+        told_set(line, a.bitand(b))
     }
 }
 
-pub fn ask(letter: u8, line: &[u8], at: usize) -> Told {
-    match letter {
-        b'z' => told_set(line, at, PlayerBitSet::default()),
-        b'n' => new(line, at),
-        b'c' => count(line, at),
-        b'e' | b'd' | b'g' | b'i' => ask_seat(letter, line, at),
-        b'o' | b'a' => ask_two(letter, line, at),
-        _ => agreeing::no_match(),
+impl List for Seats {
+    fn ask(&mut self, line: &mut Tokens) -> Option<Answer> {
+        let Mark(letter) = line.read()?;
+        match letter {
+            b'z' => told_set(line, PlayerBitSet::default()),
+            b'n' => {
+                let players: usize = line.read()?;
+                told_step(line, 0, PlayerBitSet::new(players))
+            }
+            b'c' => count(line),
+            b'e' | b'd' | b'g' | b'i' => ask_seat(letter, line),
+            b'o' | b'a' => ask_two(letter, line),
+            _ => None,
+        }
     }
 }

@@ -8,23 +8,23 @@ use table::GameState;
 // What the Rust's record lacks is not in a list: zeros.
 fn numbers_of(table: &Words) -> [u32; places::NUMBERS] {
     let mut numbers = [0u32; places::NUMBERS];
-    commons::copying::copy_u32(&mut numbers, 0, table, 0, places::ADDED);
+    numbers[..places::ADDED].copy_from_slice(&table[..places::ADDED]);
     numbers
 }
 
 fn floats_of(table: &Words) -> [f32; places::FLOATS] {
     let mut floats: [f32; places::FLOATS] = [0.0; places::FLOATS];
-    for k in 0..places::FLOATS {
-        floats[k] = words::float_of(table[places::ADDED + k]);
+    for (float, word) in floats.iter_mut().zip(&table[places::ADDED..]) {
+        *float = words::float_of(*word);
     }
     floats
 }
 
 fn words_of(floats: [f32; places::FLOATS], numbers: [u32; places::NUMBERS]) -> Words {
     let mut table = [0u32; WORDS];
-    commons::copying::copy_u32(&mut table, 0, &numbers, 0, places::ADDED);
-    for k in 0..places::FLOATS {
-        table[places::ADDED + k] = words::word_of(floats[k]);
+    table[..places::ADDED].copy_from_slice(&numbers[..places::ADDED]);
+    for (word, float) in table[places::ADDED..].iter_mut().zip(&floats) {
+        *word = words::word_of(*float);
     }
     table
 }
@@ -36,10 +36,9 @@ pub fn table_at(table: &Words) -> GameState {
     standing::table(&floats, &numbers)
 }
 
+// So is the round data.
 pub fn data_at(table: &Words) -> RoundData {
-    let floats = floats_of(table);
-    let numbers = numbers_of(table);
-    standing::read_data(&floats, &numbers).data
+    table_at(table).round_data
 }
 
 // A line tells a payment and a count beside the table, not in it.

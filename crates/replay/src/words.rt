@@ -42,9 +42,8 @@ fn is_same_word(place: usize, a: u32, b: u32, by_bits: bool) -> bool {
 
 // Whether two tables are the same at every place.
 pub fn is_same_table(a: &Words, b: &Words, by_bits: bool) -> bool {
-    let mut is_same = true;
-    for i in 0..WORDS {
-        is_same = is_same & is_same_word(i, a[i], b[i], by_bits);
-    }
-    is_same
+    let pairs = a.iter().zip(b);
+    pairs
+        .enumerate()
+        .all(|(place, (a, b))| is_same_word(place, *a, *b, by_bits))
 }

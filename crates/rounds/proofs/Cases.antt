@@ -1,5 +1,6 @@
 -- Document 01's walks P13 and P14, walks at the ends of their rule, the owing set that walks the Rust round for good, and the bets of
 -- the Rust's own example of `new_with_bets`. One table, closed by computing. Assumes nothing.
+use Rattle.refusals.specs.Rows.{verdict_number}
 use Prim.Native.Nat.{ℕ}
 use mathlib.Core.Path.{◌≡◌, refl}
 use mathlib.Core.Bool.{Bool, true, ◌&&◌}
@@ -16,7 +17,7 @@ use Rattle.commons.specs.First.{first_from}
 use Rattle.seats.specs.Set.{of_bits}
 use Rattle.rounds.specs.declared.RoundData.{RoundData}
 use Rattle.rounds.specs.Sound.{sound_parts}
-use Rattle.rounds.specs.Steps.{new_data, bets_data, advance_of, with_bets_of, number_of, passed_of}
+use Rattle.rounds.specs.Steps.{new_data, bets_data, advance_of, with_bets_of, passed_of}
 use Rattle.rounds.specs.Walk.{distance, walk_of}
 
 -- new data of n seats, seat s to act, of which these owe
@@ -26,7 +27,7 @@ at n s owing = new_data n zerof (of_bits owing) s
 walks : RoundData → ℕ → ℕ → ℕ → Bool
 walks d number seat passed =
     let r = advance_of d in
-    eqb (number_of r.answer) number && (eqb r.round_data.to_act_idx seat && eqb (passed_of r.answer) passed)
+    eqb (verdict_number r.answer) number && (eqb r.round_data.to_act_idx seat && eqb (passed_of r.answer) passed)
 
 -- the walk itself, on any set: its seat and its count
 ends : ℕ → ℕ → ℕ → ℕ → ℕ → Bool
@@ -63,7 +64,7 @@ cases =
     ∷ eq (bets_data zerof (of_bits 7) 0 given).bet (chips 20)
     ∷ eqb (bets_data zerof (of_bits 7) 0 given).total_bet_count 2
     ∷ eqb (bets_data zerof (of_bits 7) 0 given).total_raise_count 2
-    ∷ eqb (number_of (with_bets_of zerof (of_bits 7) 0 []).answer) 19
+    ∷ eqb (verdict_number (with_bets_of zerof (of_bits 7) 0 []).answer) 19
     ∷ []
 
 pub right : all_of cases ≡ true

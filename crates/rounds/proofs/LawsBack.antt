@@ -1,4 +1,7 @@
 -- A refused call on round data hands it back; refused data that was to be made is zeros. Assumes nothing.
+use Rattle.std.specs.Prelude.{Result}
+use Rattle.refusals.specs.declared.Refusal.{Refusal}
+use Rattle.refusals.specs.Rows.{verdict_number}
 use Prim.Native.Nat.{ℕ}
 use mathlib.Core.Path.{◌≡◌, refl}
 use mathlib.Core.Logic.{◌≢◌}
@@ -13,12 +16,11 @@ use Rattle.floats.specs.Helpers.{zerof}
 use Rattle.seats.specs.declared.PlayerBitSet.{PlayerBitSet}
 use Rattle.rounds.specs.declared.RoundData.{RoundData}
 use Rattle.rounds.specs.declared.RoundStep.{RoundStep}
-use Rattle.rounds.specs.declared.AmountAnswer.{AmountAnswer}
 use Rattle.rounds.specs.Sound.{sound_parts, sound_data}
-use Rattle.rounds.specs.Steps.{no_data, new_of, with_bets_of, advance_of, bet_rows, bet_of, current_bet, number_of, amount_number, amount_of}
+use Rattle.rounds.specs.Steps.{no_data, new_of, with_bets_of, advance_of, bet_rows, bet_of, current_bet, amount_of}
 
 abbrev pub Back : RoundData → RoundStep → Type 0
-Back d r = number_of r.answer ≢ 0 → r.round_data ≡ d
+Back d r = verdict_number r.answer ≢ 0 → r.round_data ≡ d
 
 pub new-back : (n : ℕ) (m : Float) (active : PlayerBitSet) (to : ℕ) → Back no_data (new_of n m active to)
 unfolding new_of
@@ -38,6 +40,6 @@ module _ (d : RoundData) where
   bet-back x forced = answer-of _ _ (Back d) (judge (bet_rows d x forced)) (λ e h. absurd (h refl)) (λ r h. refl)
 
   -- an amount that is refused is 0
-  pub amount-back : amount_number (current_bet d) ≢ 0 → amount_of (current_bet d) ≡ zerof
+  pub amount-back : verdict_number (current_bet d) ≢ 0 → amount_of (current_bet d) ≡ zerof
   unfolding current_bet
-  amount-back = pick (λ (a : AmountAnswer). amount_number a ≢ 0 → amount_of a ≡ zerof) (sound_data d) _ _ (λ h. absurd (h refl)) (λ h. refl)
+  amount-back = pick (λ (a : (Result Float Refusal)). verdict_number a ≢ 0 → amount_of a ≡ zerof) (sound_data d) _ _ (λ h. absurd (h refl)) (λ h. refl)

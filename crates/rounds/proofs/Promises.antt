@@ -57,16 +57,3 @@ payer_pay κs a x y = only same
 -- ---- src/walking.rt
 pub walk : OneResult promised.walking.walk.ended crate.walking.walk.Reads.Learnt
 walk κs a x y = only same
-
--- ---- src/answers.rt
-pub step-answer-number : OneResult promised.StepAnswer.number.ended crate.StepAnswer.number.Reads.Learnt
-step-answer-number κs a x y = only same
-
-pub step-answer-passed : OneResult promised.StepAnswer.passed.ended crate.StepAnswer.passed.Reads.Learnt
-step-answer-passed κs a x y = only same
-
-pub amount-answer-number : OneResult promised.AmountAnswer.number.ended crate.AmountAnswer.number.Reads.Learnt
-amount-answer-number κs a x y = only same
-
-pub amount-answer-amount : OneResult promised.AmountAnswer.amount.ended crate.AmountAnswer.amount.Reads.Learnt
-amount-answer-amount κs a x y = only same

@@ -1,21 +1,16 @@
 -- R3.4 to R3.9: what each call on round data alone gives; 19 comes first, and 21 after it. Definitions only.
-use Rattle.std.specs.Prelude.{ℕ, min, Bool, cond, not, List, [], ◌∷◌, get_or, set, length, Float}
+use Rattle.std.specs.Prelude.{ℕ, min, Bool, cond, not, List, [], ◌∷◌, get_or, set, length, Float, Result, Ok, Err}
 use Rattle.std.specs.Float.{nan}
 use Rattle.floats.specs.Helpers.{zerof}
 use Rattle.amounts.specs.Amounts.{zeros, of_slice, largest_of, above_of}
 use Rattle.refusals.specs.declared.Refusal.{Refusal}
 use Rattle.refusals.specs.declared.Refusal.TheVariants.{Added}
 use Rattle.refusals.specs.declared.AddedError.TheVariants.{BadRecord, CounterFull}
-use Rattle.refusals.specs.Number as Number
 use Rattle.refusals.specs.Rows.{Row, row, judge, answer}
 use Rattle.seats.specs.declared.PlayerBitSet.{PlayerBitSet}
 use Rattle.seats.specs.Set.{of_bits}
 use Rattle.rounds.specs.declared.RoundData.{RoundData}
-use Rattle.rounds.specs.declared.StepAnswer.{StepAnswer}
-use Rattle.rounds.specs.declared.StepAnswer.TheVariants.{Done, Refused}
 use Rattle.rounds.specs.declared.RoundStep.{RoundStep}
-use Rattle.rounds.specs.declared.AmountAnswer.{AmountAnswer}
-use Rattle.rounds.specs.declared.AmountAnswer.TheVariants.{Is, Unknown}
 use Rattle.rounds.specs.declared.walking.Reached.{Reached}
 use Rattle.rounds.specs.declared.paying.Stake.{Stake}
 use Rattle.rounds.specs.Paying.{stake_of, staked, is_full}
@@ -25,10 +20,10 @@ use Rattle.rounds.specs.With.{data_of, with_paid, with_turn}
 
 -- R3.9: a step that is done, with the number of seats passed to, and one that is refused
 abbrev pub done : ℕ → RoundData → RoundStep
-done k d = record { answer = Done k; round_data = d }
+done k d = record { answer = Ok k; round_data = d }
 
 abbrev pub refused : Refusal → RoundData → RoundStep
-refused r d = record { answer = Refused r; round_data = d }
+refused r d = record { answer = Err r; round_data = d }
 
 -- ---- R3.4, R3.5: made; zeros where refused
 abbrev pub no_data : RoundData
@@ -84,22 +79,14 @@ unfoldable pub bet_of : RoundData → Float → Bool → RoundStep
 bet_of d x forced = answer (done 0 (pays_of d x forced)) (λ r. refused r d) (judge (bet_rows d x forced))
 
 -- ---- R3.8: the amount asked
-unfoldable pub current_bet : RoundData → AmountAnswer
-current_bet d = cond (sound_data d) (Is (put_in d)) (Unknown (Added BadRecord))
+unfoldable pub current_bet : RoundData → Result Float Refusal
+current_bet d = cond (sound_data d) (Ok (put_in d)) (Err (Added BadRecord))
 
--- ---- R3.9: the number of an answer, and what it gives: 0 where refused
-abbrev pub number_of : StepAnswer → ℕ
-number_of (Done k) = 0
-number_of (Refused r) = Number.number_of r
+-- ---- R3.9: what an answer gives: 0 where refused
+abbrev pub passed_of : Result ℕ Refusal → ℕ
+passed_of (Ok k) = k
+passed_of (Err r) = 0
 
-abbrev pub passed_of : StepAnswer → ℕ
-passed_of (Done k) = k
-passed_of (Refused r) = 0
-
-abbrev pub amount_number : AmountAnswer → ℕ
-amount_number (Is x) = 0
-amount_number (Unknown r) = Number.number_of r
-
-abbrev pub amount_of : AmountAnswer → Float
-amount_of (Is x) = x
-amount_of (Unknown r) = zerof
+abbrev pub amount_of : Result Float Refusal → Float
+amount_of (Ok x) = x
+amount_of (Err r) = zerof

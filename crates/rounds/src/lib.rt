@@ -1,7 +1,6 @@
 // The first half of text 000: the twelve rounds, and round data with its walk.
 #![tactic(auto)]
 
-mod answers;
 pub mod paying;
 pub mod walking;
 
@@ -15,20 +14,20 @@ use paying::Stake;
 use refusals::{AddedError, Refusal};
 use seats::PlayerBitSet;
 
-#[derive(Clone, Copy)]
+#[derive(Clone, Copy, PartialEq, Eq)]
 pub enum Round {
-    Starting,
-    Ante,
-    DealPreflop,
-    Preflop,
-    DealFlop,
-    Flop,
-    DealTurn,
-    Turn,
-    DealRiver,
-    River,
-    Showdown,
-    Complete,
+    Starting = 0,
+    Ante = 1,
+    DealPreflop = 2,
+    Preflop = 3,
+    DealFlop = 4,
+    Flop = 5,
+    DealTurn = 6,
+    Turn = 7,
+    DealRiver = 8,
+    River = 9,
+    Showdown = 10,
+    Complete = 11,
 }
 
 impl Round {
@@ -51,26 +50,15 @@ impl Round {
         }
     }
 
+    // A host's words and a script's lines tell the round by its number.
     pub fn number(self) -> u8
         ensures { result ≡ round_number self }
     {
-        match self {
-            Round::Starting => 0,
-            Round::Ante => 1,
-            Round::DealPreflop => 2,
-            Round::Preflop => 3,
-            Round::DealFlop => 4,
-            Round::Flop => 5,
-            Round::DealTurn => 6,
-            Round::Turn => 7,
-            Round::DealRiver => 8,
-            Round::River => 9,
-            Round::Showdown => 10,
-            Round::Complete => 11,
-        }
+        self as u8
     }
 }
 
+// `player_bet` has its length beside it, for there is no heap: a table has 16 places at most.
 #[derive(Clone, Copy)]
 pub struct RoundData {
     pub starting_player_active: PlayerBitSet,
@@ -85,24 +73,12 @@ pub struct RoundData {
     pub to_act_idx: usize,
 }
 
-// What a step answers: how many seats the walk passed to, 0 where the step has no walk; or why it is refused.
-#[derive(Clone, Copy)]
-pub enum StepAnswer {
-    Done(usize),
-    Refused(Refusal),
-}
-
+// What a step gives: how many seats the walk passed to, 0 where the step has no walk, or why it is refused; and the data, as it was where refused.
+// It is a type of its own, and not one generic step, so that its field says what is given back.
 #[derive(Clone, Copy)]
 pub struct RoundStep {
-    pub answer: StepAnswer,
+    pub answer: Result<usize, Refusal>,
     pub round_data: RoundData,
-}
-
-// An amount that was asked for.
-#[derive(Clone, Copy)]
-pub enum AmountAnswer {
-    Is(f32),
-    Unknown(Refusal),
 }
 
 // The paper's test of round data, on the parts that it looks at.
@@ -131,12 +107,13 @@ impl RoundData {
         }
     }
 
+    // A refused call that makes data gives zeros beside the refusal, and no Option: `no_data` is promised.
     pub fn new(num_players: usize, min_raise: f32, active: PlayerBitSet, to_act: usize) -> RoundStep
         ensures { result ≡ new_of num_players min_raise active to_act }
     {
         if is_sound(num_players, to_act, active.set) {
             return RoundStep {
-                answer: StepAnswer::Done(0),
+                answer: Ok(0),
                 round_data: RoundData {
                     starting_player_active: active,
                     needs_action: active,
@@ -152,7 +129,7 @@ impl RoundData {
             };
         }
         RoundStep {
-            answer: StepAnswer::Refused(Refusal::Added(AddedError::BadRecord)),
+            answer: Err(AddedError::BadRecord.into()),
             round_data: RoundData::none(),
         }
     }
@@ -170,7 +147,7 @@ impl RoundData {
             let bets = amounts::of_slice(player_bet);
             let count = amounts::count_above_zero(bets, len);
             return RoundStep {
-                answer: StepAnswer::Done(0),
+                answer: Ok(0),
                 round_data: RoundData {
                     starting_player_active: active,
                     needs_action: active,
@@ -186,7 +163,7 @@ impl RoundData {
             };
         }
         RoundStep {
-            answer: StepAnswer::Refused(Refusal::Added(AddedError::BadRecord)),
+            answer: Err(AddedError::BadRecord.into()),
             round_data: RoundData::none(),
         }
     }
@@ -202,12 +179,12 @@ impl RoundData {
             let w = walking::walk(owing, n, at);
             self.to_act_idx = w.seat;
             return RoundStep {
-                answer: StepAnswer::Done(w.passed),
+                answer: Ok(w.passed),
                 round_data: self,
             };
         }
         RoundStep {
-            answer: StepAnswer::Refused(Refusal::Added(AddedError::BadRecord)),
+            answer: Err(AddedError::BadRecord.into()),
             round_data: self,
         }
     }
@@ -255,17 +232,17 @@ impl RoundData {
             let stake = self.stake();
             if stake.is_full(extra_amount, is_forced) {
                 return RoundStep {
-                    answer: StepAnswer::Refused(Refusal::Added(AddedError::CounterFull)),
+                    answer: Err(AddedError::CounterFull.into()),
                     round_data: self,
                 };
             }
             return RoundStep {
-                answer: StepAnswer::Done(0),
+                answer: Ok(0),
                 round_data: self.with_stake(stake.put_in(extra_amount, is_forced)),
             };
         }
         RoundStep {
-            answer: StepAnswer::Refused(Refusal::Added(AddedError::BadRecord)),
+            answer: Err(AddedError::BadRecord.into()),
             round_data: self,
         }
     }
@@ -282,14 +259,14 @@ impl RoundData {
         self.total_bet_count == self.forced_bet_count
     }
 
-    pub fn current_player_bet(self) -> AmountAnswer
+    pub fn current_player_bet(self) -> Result<f32, Refusal>
         ensures { result ≡ current_bet self }
     {
         let at = self.to_act_idx;
         if is_sound(self.player_bet_len, at, self.needs_action.set) {
-            AmountAnswer::Is(self.player_bet[at])
+            Ok(self.player_bet[at])
         } else {
-            AmountAnswer::Unknown(Refusal::Added(AddedError::BadRecord))
+            Err(AddedError::BadRecord.into())
         }
     }
 }

@@ -1,4 +1,5 @@
-// The walk round the table, on the owing set, the number of seats and the seat alone.
+// The walk round the table, on the owing set, the number of seats and the seat alone. The three stay parameters: a struct that holds them to 16 seats would ask
+// more than `walk_from`, which is promised for any number.
 ghost use Rattle.std.specs.Prelude.{◌≡◌, ◌+◌, ◌%◌, ◌<◌, ◌≤◌};
 ghost use Rattle.rounds.specs.Walk.{Ahead, distance, walk_of, reached_from};
 
@@ -75,6 +76,7 @@ fn walk_from(owing: u16, n: usize, seat: usize) -> Reached
     if n <= 16 {
         return walk_bits(owing, n, seat);
     }
+    // By hand: a table of more than 16 has no set to ask, and its seats are promised too.
     let mut at = seat;
     let mut passed = 0usize;
     while passed < n {

@@ -8,10 +8,11 @@ use Rattle.commons.proofs.Bools.{pick}
 use Rattle.seats.specs.declared.PlayerBitSet.{PlayerBitSet}
 use Rattle.seats.specs.declared.SetStep.{SetStep}
 use Rattle.seats.specs.declared.SeatStep.{SeatStep}
-use Rattle.seats.specs.Set.{of_bits, new_of, enable_of, disable_of, get_of, number_of, seat_number, seat_is}
+use Rattle.seats.specs.Set.{of_bits, new_of, enable_of, disable_of, get_of, seat_is}
+use Rattle.refusals.specs.Rows.{verdict_number}
 
 abbrev pub Back : PlayerBitSet → SetStep → Type 0
-Back s r = number_of r.answer ≢ 0 → r.set ≡ s
+Back s r = verdict_number r.answer ≢ 0 → r.set ≡ s
 
 pub new-back : (n : ℕ) → Back (of_bits 0) (new_of n)
 unfolding new_of
@@ -27,6 +28,6 @@ module _ (s : PlayerBitSet) (i : ℕ) where
   disable-back = pick (Back s) (ltb i 16) _ _ (λ h. absurd (h refl)) (λ h. refl)
 
   -- `get` hands the set back in any case, and where it is refused it says no
-  pub get-back : ((get_of s i).set ≡ s) × (seat_number (get_of s i).answer ≢ 0 → seat_is (get_of s i).answer ≡ false)
+  pub get-back : ((get_of s i).set ≡ s) × (verdict_number (get_of s i).answer ≢ 0 → seat_is (get_of s i).answer ≡ false)
   unfolding get_of
-  get-back = pick (λ (r : SeatStep). (r.set ≡ s) × (seat_number r.answer ≢ 0 → seat_is r.answer ≡ false)) (ltb i 16) _ _ (refl, λ h. absurd (h refl)) (refl, λ h. refl)
+  get-back = pick (λ (r : SeatStep). (r.set ≡ s) × (verdict_number r.answer ≢ 0 → seat_is r.answer ≡ false)) (ltb i 16) _ _ (refl, λ h. absurd (h refl)) (refl, λ h. refl)

@@ -10,60 +10,42 @@ use refusals::{AddedError, GameStateBuilderError, Refusal};
 
 pub mod bits;
 
-#[derive(Clone, Copy)]
+#[derive(Clone, Copy, PartialEq, Eq)]
 pub struct PlayerBitSet {
     pub set: u16,
 }
 
-#[derive(Clone, Copy)]
-pub enum SetAnswer {
-    Made,
-    Refused(Refusal),
-}
-
 // What a call that makes a set gives: the answer, and the set beside it.
+// It is a type of its own, and not one generic step, so that its field says what is given back.
 #[derive(Clone, Copy)]
 pub struct SetStep {
-    pub answer: SetAnswer,
+    pub answer: Result<(), Refusal>,
     pub set: PlayerBitSet,
 }
 
-// Whether a seat is in the set.
-#[derive(Clone, Copy)]
-pub enum SeatAnswer {
-    Is(bool),
-    NoSeat(Refusal),
-}
-
+// Whether a seat is in the set, and the set beside it.
+// It is a type of its own, and not one generic step, so that its field says what is given back.
 #[derive(Clone, Copy)]
 pub struct SeatStep {
-    pub answer: SeatAnswer,
+    pub answer: Result<bool, Refusal>,
     pub set: PlayerBitSet,
-}
-
-// What the Rust's iterator gives: a seat, or that none is left.
-#[derive(Clone, Copy)]
-pub enum NextSeat {
-    At(usize),
-    NoMore,
 }
 
 impl PlayerBitSet {
+    // Above 16 seats it gives nobody beside the refusal, and no Option: `refused` promises that set.
     pub fn new(players: usize) -> SetStep
         ensures { result ≡ new_of players }
     {
         if players <= 16 {
             SetStep {
-                answer: SetAnswer::Made,
+                answer: Ok(()),
                 set: PlayerBitSet {
                     set: bits::up_to(players),
                 },
             }
         } else {
             SetStep {
-                answer: SetAnswer::Refused(Refusal::Build(
-                    GameStateBuilderError::InvalidPlayerCount,
-                )),
+                answer: Err(GameStateBuilderError::InvalidPlayerCount.into()),
                 set: PlayerBitSet { set: 0 },
             }
         }
@@ -92,14 +74,14 @@ impl PlayerBitSet {
     {
         if idx < 16 {
             SetStep {
-                answer: SetAnswer::Made,
+                answer: Ok(()),
                 set: PlayerBitSet {
                     set: bits::with(self.set, idx),
                 },
             }
         } else {
             SetStep {
-                answer: SetAnswer::Refused(Refusal::Added(AddedError::BadSeat)),
+                answer: Err(AddedError::BadSeat.into()),
                 set: self,
             }
         }
@@ -110,45 +92,37 @@ impl PlayerBitSet {
     {
         if idx < 16 {
             SetStep {
-                answer: SetAnswer::Made,
+                answer: Ok(()),
                 set: PlayerBitSet {
                     set: bits::without(self.set, idx),
                 },
             }
         } else {
             SetStep {
-                answer: SetAnswer::Refused(Refusal::Added(AddedError::BadSeat)),
+                answer: Err(AddedError::BadSeat.into()),
                 set: self,
             }
         }
     }
 
+    // The set comes back as it was, by the law `get-back`.
     pub fn get(self, idx: usize) -> SeatStep
         ensures { result ≡ get_of self idx }
     {
-        if idx < 16 {
-            SeatStep {
-                answer: SeatAnswer::Is(bits::has(self.set, idx)),
-                set: self,
-            }
+        let answer = if idx < 16 {
+            Ok(bits::has(self.set, idx))
         } else {
-            SeatStep {
-                answer: SeatAnswer::NoSeat(Refusal::Added(AddedError::BadSeat)),
-                set: self,
-            }
-        }
+            Err(AddedError::BadSeat.into())
+        };
+        SeatStep { answer, set: self }
     }
 
-    // The iterator as an index loop: start at 0, and ask again from the seat after the one given.
-    pub fn ones(self, from: usize) -> NextSeat
+    // The Rust's iterator, asked from a place on: start at 0, and ask again from the seat after the one given.
+    pub fn ones(self, from: usize) -> Option<usize>
         ensures { result ≡ ones_of self from }
     {
         let i = bits::next(self.set, from);
-        if i < 16 {
-            NextSeat::At(i)
-        } else {
-            NextSeat::NoMore
-        }
+        if i < 16 { Some(i) } else { None }
     }
 
     pub fn bitor(self, rhs: PlayerBitSet) -> PlayerBitSet

@@ -1,12 +1,11 @@
 -- The five answers: an accepted settlement passed all four tests and pays out; any other hands the record back with no rewards. Assumes nothing.
 use Rattle.std.proofs.Common.{◌≡◌, ℕ, Bool, true, false, not, ◌≢◌, List, [], ◌∷◌, sym, refl, ap, ◌∙◌, ⊎_elim, arith}
+use Rattle.std.specs.Prelude.{Ok, Err}
 use Rattle.refusals.specs.declared.Refusal.TheVariants.{Added}
 use Rattle.refusals.specs.declared.AddedError.TheVariants.{BadRecord, NobodyLeft, NotWholeChips, AlreadyPaid}
 use Rattle.commons.proofs.Bools.{either, turned}
-use Rattle.refusals.specs.declared.Verdict.{Verdict}
-use Rattle.refusals.specs.declared.Verdict.TheVariants.{Stands, Refused}
-use Rattle.refusals.specs.Rows.{row, judge, answer, verdict_number}
 use Rattle.refusals.proofs.Rows.{fails-at, answer-of}
+use Rattle.refusals.specs.Rows.{row, Verdict, judge, answer, verdict_number}
 use Rattle.table.specs.declared.GameState.{GameState}
 use Rattle.table.specs.Sound.{sound_of}
 use Rattle.table.proofs.Sound.{sound}
@@ -23,7 +22,7 @@ pub record Passed (t : GameState) (contested : Bool) : Type 0 where
   pub wholes : is_whole_table t ≡ true
   pub left : contested ≡ true
 
-pub verdict-paid : (t : GameState) (contested : Bool) → judge (settle_rows t contested) ≡ Stands → Passed t contested
+pub verdict-paid : (t : GameState) (contested : Bool) → judge (settle_rows t contested) ≡ Ok tt → Passed t contested
 verdict-paid t contested p =
     let fail = fails-at (settle_rows t contested) p in
     record { sounds = turned _ false (fail 0); unpaid = fail 1; wholes = turned _ false (fail 2); left = turned _ false (fail 3) }
@@ -98,13 +97,13 @@ module _ (t : GameState) (ranks : List ℕ) where
   answered = by verdict
     where
       by : (v : Verdict) → (answer (paid_out t (awards_of (hand_of t ranks))) (refused t) v).answer ≡ v
-      by Stands = refl
-      by (Refused r) = refl
+      by (Ok _) = refl
+      by (Err r) = refl
 
-  pub accepted : (settled_of t ranks).answer ≡ Stands → Accepted t ranks
+  pub accepted : (settled_of t ranks).answer ≡ Ok tt → Accepted t ranks
   unfolding settled_of
   accepted p =
-      let v : verdict ≡ Stands = sym answered ∙ p in
+      let v : verdict ≡ Ok tt = sym answered ∙ p in
       let q = verdict-paid t (someone t ranks) v in
       let w = whole t q.wholes in
       record { sounds = q.sounds; unpaid = q.unpaid; is_whole = w; payable = payable_where t ranks (sound t q.sounds) w ∙ q.left; is = ap (answer (paid_out t (awards_of (hand_of t ranks))) (refused t)) v }

@@ -1,6 +1,7 @@
 -- A second settlement: winnings that grew are not 0, so it is 24 exactly where the first one paid something. Assumes nothing.
 use Rattle.std.proofs.Common.{◌≡◌, ℕ, ◌<◌, true, false, ltb, ◌≢◌, List, get_or, sym, ap, ◌∙◌, ⊎_elim, eq-zero-or-pos, arith, le-ltb, lt-ltb}
 use lib.Ieee.{nan, ne}
+use Rattle.std.specs.Prelude.{Ok}
 use Rattle.refusals.specs.declared.Refusal.TheVariants.{Added}
 use Rattle.refusals.specs.declared.AddedError.TheVariants.{AlreadyPaid}
 use Rattle.floats.specs.Helpers.{zerof}
@@ -9,7 +10,6 @@ use Rattle.table.specs.declared.GameState.{GameState}
 use Rattle.chips.specs.Whole.{chips_in}
 use Rattle.commons.proofs.Folds.{sum_same, sum-part, sum-zero, any_at}
 use Rattle.chips.proofs.Whole.{one_number}
-use Rattle.refusals.specs.declared.Verdict.TheVariants.{Stands}
 use Rattle.settlement.specs.declared.Settled.{Settled}
 use Rattle.settlement.specs.Settlement.{any_won, is_paid, refused, settled_of}
 use Rattle.refusals.specs.Rows.{verdict_number}
@@ -17,7 +17,7 @@ use Rattle.settlement.proofs.Accepted.{accepted, already_paid, never_24}
 use Rattle.settlement.proofs.Promises.{after, award_of, awards-add, none-won, winnings-is, winnings_stay, stays-sound}
 use Rattle.settlement.proofs.Unpaid.{won-at, zero-at}
 
-module _ (t : GameState) (ranks : List ℕ) (paid : (settled_of t ranks).answer ≡ Stands) where
+module _ (t : GameState) (ranks : List ℕ) (paid : (settled_of t ranks).answer ≡ Ok tt) where
   abbrev n : ℕ
   n = t.num_players
 

@@ -2,17 +2,16 @@
 -- another good key the answer is the same, and the table after it the same but for the key (`key_apart`). Assumes nothing.
 use Rattle.std.proofs.Common.{◌≡◌, ℕ, Bool, true, not, List, [], ◌∷◌, ℤ, refl, ◌∙◌}
 use lib.Ieee.{Float}
+use Rattle.std.specs.Prelude.{Result}
 use Rattle.refusals.specs.declared.Refusal.TheVariants.{Added}
 use Rattle.refusals.specs.declared.AddedError.TheVariants.{AlreadyPaid, NotWholeChips, NobodyLeft}
-use Rattle.refusals.specs.declared.Verdict.{Verdict}
-use Rattle.refusals.specs.Rows.{row, judge, answer}
 use Rattle.refusals.proofs.Rows.{answer-of}
+use Rattle.refusals.specs.declared.Refusal.{Refusal}
+use Rattle.refusals.specs.Rows.{row, Verdict, judge, answer}
 use Rattle.keys.specs.declared.HandKey.{HandKey}
 use Rattle.keys.specs.Keys.{is_good}
-use Rattle.rounds.specs.declared.StepAnswer.{StepAnswer}
 use Rattle.table.specs.declared.GameState.{GameState}
 use Rattle.table.specs.declared.AgentAction.{AgentAction}
-use Rattle.table.specs.declared.BetAnswer.{BetAnswer}
 use Rattle.table.specs.declared.BetStep.{BetStep}
 use Rattle.table.specs.declared.TableStep.{TableStep}
 use Rattle.table.specs.Added.{good_added}
@@ -20,6 +19,7 @@ use Rattle.table.specs.Choice.{choice_of}
 use Rattle.table.specs.Pay.{bet_of, fold_of, award_of}
 use Rattle.table.specs.Rounds.{advance_of, complete_of}
 use Rattle.table.proofs.LawsKey.{rekeyed, given, judged, bet-carries, fold-carries, advance-carries, complete-carries, award-carries, choice_carries, bet_apart, fold_apart, advance_apart, complete_apart, award_apart, choice_apart}
+use Rattle.table.specs.declared.Paid.{Paid}
 use Rattle.layers.specs.Settlement.{awards_of}
 use Rattle.settlement.specs.declared.Settled.{Settled}
 use Rattle.settlement.specs.Hand.{hand_of}
@@ -52,8 +52,8 @@ pub data Step : Type 0 where
   settle : List ℕ → Step
 
 pub data Answer : Type 0 where
-  betting : BetAnswer → Answer
-  stepping : StepAnswer → Answer
+  betting : Result Paid Refusal → Answer
+  stepping : Result ℕ Refusal → Answer
   settling : Verdict → List ℤ → Answer
 
 pub record Taken : Type 0 where

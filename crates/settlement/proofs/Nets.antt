@@ -3,13 +3,13 @@
 use Rattle.std.proofs.Common.{◌≡◌, ℕ, ◌+◌, ◌<◌, ◌≤◌, List, get_or, ℤ, pos, ◌-ℤ◌, ap, ◌∙◌, ⊎_elim, w32, SFits}
 use lib.Signed.{mag}
 use lib.ListN.{get_or-replicate, get_or-eq_default}
+use Rattle.std.specs.Prelude.{Ok}
 use Rattle.commons.proofs.Order.{lt_or_le}
 use Rattle.commons.proofs.Filled.{filled_at, filled-out}
 use Rattle.table.specs.declared.GameState.{GameState}
 use Rattle.table.proofs.Sound.{sound}
 use Rattle.chips.specs.Whole.{most}
 use Rattle.chips.proofs.Whole.{chips-le}
-use Rattle.refusals.specs.declared.Verdict.TheVariants.{Stands}
 use Rattle.settlement.specs.declared.Settled.{Settled}
 use Rattle.settlement.specs.Hand.{chips_at}
 use Rattle.settlement.specs.Settlement.{no_rewards, rewards_of, settled_of}
@@ -20,7 +20,7 @@ use Rattle.settlement.proofs.Signed.{less-mag, less-fits}
 abbrev pub reward_of : GameState → List ℕ → ℕ → ℤ
 reward_of t ranks i = get_or (settled_of t ranks).rewards i (pos 0)
 
-module _ (t : GameState) (ranks : List ℕ) (paid : (settled_of t ranks).answer ≡ Stands) where
+module _ (t : GameState) (ranks : List ℕ) (paid : (settled_of t ranks).answer ≡ Ok tt) where
   abbrev n : ℕ
   n = t.num_players
 

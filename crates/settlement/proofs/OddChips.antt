@@ -2,6 +2,7 @@
 use Rattle.std.proofs.Common.{◌≡◌, ℕ, zero, suc, ◌+◌, ◌-◌, ◌/◌, ◌%◌, ◌<◌, ◌≤◌, true, cond, ltb, List, sym, ap, ◌∙◌, ⊎_elim, add-zero, add-suc, mod-eq_of_lt, arith, le-leb}
 use native.Mathlib.Nat.{add-mod_right, mod-eq-sub-mod}
 use borrow.Author.Tests.{lt-leb}
+use Rattle.std.specs.Prelude.{Ok}
 use Rattle.commons.proofs.Order.{lt_or_le}
 use Rattle.commons.specs.Folds.{sum_to}
 use Rattle.commons.proofs.Folds.{sum_same}
@@ -16,7 +17,6 @@ use Rattle.layers.specs.Settlement.{holds, wins, winners, share}
 use Rattle.layers.proofs.Seats.{count-suc, count-up, count_most}
 use Rattle.layers.proofs.Sharing.{share-by}
 use Rattle.layers.proofs.Winning.{has-winners, wins_in}
-use Rattle.refusals.specs.declared.Verdict.TheVariants.{Stands}
 use Rattle.settlement.specs.Hand.{first_of, hand_of}
 use Rattle.settlement.specs.Settlement.{settled_of}
 use Rattle.settlement.proofs.Accepted.{accepted}
@@ -93,7 +93,7 @@ module _ (t : GameState) (ranks : List ℕ) where
   earlier u i = met u (clockwise n dealer i - 1)
 
   -- a winner gets an equal part, and an odd chip exactly if fewer winners come before it than there are odd chips
-  pub odd-chips : (settled_of t ranks).answer ≡ Stands → (u i : ℕ) → wins hand u i ≡ true
+  pub odd-chips : (settled_of t ranks).answer ≡ Ok tt → (u i : ℕ) → wins hand u i ≡ true
       → share hand u i ≡ holds hand u / met u n + cond (ltb (earlier u i) (holds hand u % met u n)) 1 0
   unfolding share
   odd-chips paid u i w =

@@ -2,6 +2,7 @@
 -- each stack and each winnings grows by its award. And any pair of results that the `ensures` of `settle` allows is equal. Assumes nothing.
 use Rattle.std.proofs.Common.{◌≡◌, ℕ, suc, ◌+◌, ◌<◌, ◌≤◌, true, List, length, get_or, sym, ap, ◌∙◌, arith}
 use lib.Ieee.{nan}
+use Rattle.std.specs.Prelude.{Ok}
 use Rattle.commons.proofs.OneResult.{OneResult, same, only}
 use Rattle.table.specs.declared.GameState.{GameState}
 use Rattle.table.specs.Sound.{sound_of}
@@ -17,7 +18,6 @@ use Rattle.layers.specs.declared.Hand.{Hand}
 use Rattle.layers.specs.Settlement.{rank, contends, top, reached, wins, share, award, awards_of, awarded}
 use Rattle.layers.proofs.Whole.{gets}
 use Rattle.layers.proofs.Promises as layers
-use Rattle.refusals.specs.declared.Verdict.TheVariants.{Stands}
 use Rattle.settlement.specs.declared.Settled.{Settled}
 use Rattle.settlement.specs.Hand.{chips_at, hand_of}
 use Rattle.settlement.specs.Settlement.{raised_all, settled_of}
@@ -39,7 +39,7 @@ after t ranks = (settled_of t ranks).table
 abbrev pub award_of : GameState → List ℕ → ℕ → ℕ
 award_of t ranks i = awarded (hand_of t ranks) i
 
-module _ (t : GameState) (ranks : List ℕ) (paid : (settled_of t ranks).answer ≡ Stands) where
+module _ (t : GameState) (ranks : List ℕ) (paid : (settled_of t ranks).answer ≡ Ok tt) where
   abbrev n : ℕ
   n = t.num_players
 

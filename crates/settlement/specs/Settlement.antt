@@ -1,11 +1,10 @@
 -- Section 11, settlement: the refusals in their order, what is paid, and the rewards. Definitions only.
-use Rattle.std.specs.Prelude.{ℕ, ◌+◌, Bool, cond, not, List, [], ◌∷◌, replicate, ℤ, pos, ◌-ℤ◌, ◌==◌, nat_le, slice_index, slice_index_or, Float}
 use Rattle.std.specs.Float.{nan, binary32}
 use Rattle.std.specs.Float.Ieee.{add, ne, of_int}
+use Rattle.std.specs.Prelude.{ℕ, ◌+◌, Bool, cond, not, Ok, Err, List, [], ◌∷◌, replicate, ℤ, pos, ◌-ℤ◌, ◌==◌, nat_le, slice_index, slice_index_or, Float}
 use Rattle.refusals.specs.declared.Refusal.{Refusal}
 use Rattle.refusals.specs.declared.Refusal.TheVariants.{Added}
 use Rattle.refusals.specs.declared.AddedError.TheVariants.{NobodyLeft, NotWholeChips, AlreadyPaid}
-use Rattle.refusals.specs.declared.Verdict.TheVariants.{Stands, Refused}
 use Rattle.refusals.specs.Rows.{Row, row, judge, answer}
 use Rattle.commons.specs.Tests.{all_of}
 use Rattle.floats.specs.Helpers.{zerof}
@@ -78,14 +77,14 @@ rewards_of n stacks starting = filled n no_rewards (λ i. pos (chips_at stacks i
 
 abbrev pub paid_out : GameState → List ℕ → Settled
 paid_out t awards = record {
-  answer = Stands;
+  answer = Ok tt;
   table = with_awards t awards;
   rewards = rewards_of t.num_players (with_awards t awards).stacks t.starting_stacks;
 }
 
 -- ---- R11.1, R11.12: the settlement; refused, the record comes back with no rewards
 abbrev pub refused : GameState → Refusal → Settled
-refused t r = record { answer = Refused r; table = t; rewards = no_rewards }
+refused t r = record { answer = Err r; table = t; rewards = no_rewards }
 
 unfoldable pub settled_of : GameState → List ℕ → Settled
 settled_of t ranks = answer (paid_out t (awards_of (hand_of t ranks))) (refused t) (judge (settle_rows t (someone t ranks)))

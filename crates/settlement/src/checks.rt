@@ -9,11 +9,7 @@ pub fn any_won(winnings: [f32; 16], n: usize) -> bool
     if 16 < n {
         return true;
     }
-    let mut any = false;
-    for i in 0..n {
-        any = any | (winnings[i] != 0.0);
-    }
-    any
+    winnings[..n].iter().any(|x| *x != 0.0)
 }
 
 pub fn in_chips(n: usize, stacks: [f32; 16], bets: [f32; 16], starting: [f32; 16], pot: f32) -> bool

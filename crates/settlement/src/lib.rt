@@ -7,7 +7,7 @@ ghost use Rattle.settlement.specs.Settlement.{settle_rows, paid_out, settled_of}
 ghost use Rattle.refusals.specs.Rows.{judge};
 
 use layers::Hand;
-use refusals::{AddedError, Refusal, Verdict, give_if};
+use refusals::{AddedError, Refusal, refuse_if};
 use table::GameState;
 
 mod checks;
@@ -15,7 +15,7 @@ mod paying;
 
 #[derive(Clone, Copy)]
 pub struct Settled {
-    pub answer: Verdict,
+    pub answer: Result<(), Refusal>,
     pub table: GameState,
     pub rewards: [i32; 16],
 }
@@ -51,8 +51,8 @@ fn hand_of(table: GameState, ranks: [u16; 16]) -> Hand
     }
 }
 
-// The refusals, the last one first: each stands before those made above it.
-fn verdict(table: GameState, someone: bool) -> Verdict
+// The refusals, from the first row to the last: the first that holds answers.
+fn verdict(table: GameState, someone: bool) -> Result<(), Refusal>
     ensures { result ≡ judge (settle_rows table someone) }
 {
     let n = table.num_players;
@@ -62,18 +62,10 @@ fn verdict(table: GameState, someone: bool) -> Verdict
     let winnings = table.player_winnings;
     let whole = checks::in_chips(n, stacks, bets, starting, table.total_pot);
     let paid = checks::any_won(winnings, n);
-    let v22 = give_if(
-        !someone,
-        Refusal::Added(AddedError::NobodyLeft),
-        Verdict::Stands,
-    );
-    let v23 = give_if(!whole, Refusal::Added(AddedError::NotWholeChips), v22);
-    let v24 = give_if(paid, Refusal::Added(AddedError::AlreadyPaid), v23);
-    give_if(
-        !table.is_sound(),
-        Refusal::Added(AddedError::BadRecord),
-        v24,
-    )
+    refuse_if(!table.is_sound(), AddedError::BadRecord.into())?;
+    refuse_if(paid, AddedError::AlreadyPaid.into())?;
+    refuse_if(!whole, AddedError::NotWholeChips.into())?;
+    refuse_if(!someone, AddedError::NobodyLeft.into())
 }
 
 // The awards go into the stacks and the winnings, and the rewards are told of the stacks with them.
@@ -92,7 +84,7 @@ fn paid_out(table: GameState, awards: [u32; 16]) -> Settled
     t.stacks = more;
     t.player_winnings = won;
     Settled {
-        answer: Verdict::Stands,
+        answer: Ok(()),
         table: t,
         rewards,
     }
@@ -105,9 +97,9 @@ pub fn settle(table: GameState, ranks: [u16; 16]) -> Settled
     let h = hand_of(table, ranks);
     // where 22 is looked at, a hand is payable exactly if somebody contends
     match verdict(table, layers::is_payable(h)) {
-        Verdict::Stands => paid_out(table, layers::awards(h)),
-        Verdict::Refused(r) => Settled {
-            answer: Verdict::Refused(r),
+        Ok(()) => paid_out(table, layers::awards(h)),
+        Err(r) => Settled {
+            answer: Err(r),
             table,
             rewards: [0; 16],
         },

@@ -1,4 +1,6 @@
 -- The verdict on a bet and the bet on a record, case by case. Assumes nothing.
+use Rattle.std.specs.Prelude.{Result, Ok, Err}
+use Rattle.refusals.specs.Rows.{Verdict}
 use mathlib.Core.Path.{◌≡◌, refl, sym, ap, ◌∙◌}
 use Prim.Native.Nat.{ℕ}
 use native.Mathlib.Omega.{arith}
@@ -8,12 +10,8 @@ use lib.Ieee.{Float}
 use Rattle.refusals.specs.declared.Refusal.{Refusal}
 use Rattle.refusals.specs.declared.Refusal.TheVariants.{Added}
 use Rattle.refusals.specs.declared.AddedError.TheVariants.{BadRecord, CounterFull}
-use Rattle.refusals.specs.declared.Verdict.{Verdict}
-use Rattle.refusals.specs.declared.Verdict.TheVariants.{Stands, Refused as No}
 use Rattle.refusals.specs.Rows.{row, judge, answer}
 use Rattle.refusals.proofs.Rows.{judge-joined, then_answer}
-use Rattle.bets.specs.declared.BetSize.{BetSize}
-use Rattle.bets.specs.declared.BetSize.TheVariants.{Pays, Refused}
 use Rattle.bets.specs.Bet.{size_rows, size_for}
 use Rattle.rounds.specs.declared.paying.Payer.{Payer}
 use Rattle.rounds.specs.declared.paying.Stake.{Stake}
@@ -25,27 +23,27 @@ use Rattle.table.specs.Sound.{sound_of}
 
 -- ---- a size that a verdict gives: it pays where the verdict stands, and else tells its refusal
 module _ (x : Float) where
-  stands : (v : Verdict) (y : Float) → answer (Pays x) Refused v ≡ Pays y → (v ≡ Stands) × (x ≡ y)
-  stands Stands y e = (refl, cc)
-  stands (No r) y e = absurd (let z : ◌≡◌ {A = ℕ} 0 1 = cc in omega arith)
+  stands : (v : Verdict) (y : Float) → answer (Ok x) Err v ≡ Ok y → (v ≡ (Ok tt)) × (x ≡ y)
+  stands (Ok _) y e = (refl, cc)
+  stands (Err r) y e = absurd (let z : ◌≡◌ {A = ℕ} 0 1 = cc in omega arith)
 
-  falls : (v : Verdict) (r : Refusal) → answer (Pays x) Refused v ≡ Refused r → v ≡ No r
-  falls Stands r e = absurd (let z : ◌≡◌ {A = ℕ} 0 1 = cc in omega arith)
-  falls (No s) r e = cc
+  falls : (v : Verdict) (r : Refusal) → answer (Ok x) Err v ≡ Err r → v ≡ Err r
+  falls (Ok _) r e = absurd (let z : ◌≡◌ {A = ℕ} 0 1 = cc in omega arith)
+  falls (Err s) r e = cc
 
 -- ---- what is left of a size once the counters are looked at
-module _ (s : Stake) (forced : Bool) (size : BetSize) where
-  pub room-refused : (r : Refusal) → size ≡ Refused r → Refused r ≡ room_for s forced size
+module _ (s : Stake) (forced : Bool) (size : (Result Float Refusal)) where
+  pub room-refused : (r : Refusal) → size ≡ Err r → Err r ≡ room_for s forced size
   room-refused r e = λ i. room_for s forced (sym e i)
 
-  module _ (x : Float) (e : size ≡ Pays x) (f : Bool) (counted : f ≡ is_full s x forced) where
-    by_counters : (g : Bool) → f ≡ g → answer (Pays x) Refused (judge (row g (Added CounterFull) ∷ [])) ≡ room_for s forced size
-    by_counters g h = (λ i. answer (Pays x) Refused (judge (row ((sym h ∙ counted) i) (Added CounterFull) ∷ []))) ∙ λ i. room_for s forced (sym e i)
+  module _ (x : Float) (e : size ≡ Ok x) (f : Bool) (counted : f ≡ is_full s x forced) where
+    by_counters : (g : Bool) → f ≡ g → answer (Ok x) Err (judge (row g (Added CounterFull) ∷ [])) ≡ room_for s forced size
+    by_counters g h = (λ i. answer (Ok x) Err (judge (row ((sym h ∙ counted) i) (Added CounterFull) ∷ []))) ∙ λ i. room_for s forced (sym e i)
 
-    pub room-full : f ≡ true → Refused (Added CounterFull) ≡ room_for s forced size
+    pub room-full : f ≡ true → Err (Added CounterFull) ≡ room_for s forced size
     room-full h = by_counters true h
 
-    pub room-left : f ≡ false → Pays x ≡ room_for s forced size
+    pub room-left : f ≡ false → Ok x ≡ room_for s forced size
     room-left h = by_counters false h
 
 -- ---- the verdict: the counters' row comes after those of the size
@@ -56,15 +54,15 @@ module _ (p : Payer) (a : Float) (forced : Bool) where
   abbrev by_size : Verdict
   by_size = judge (size_rows forced a (faced_by p))
 
-  joined : (v : Verdict) → by_size ≡ v → answer (Pays pays) Refused (answer (judge (full_row p a forced ∷ [])) No v) ≡ verdict_of p a forced
+  joined : (v : Verdict) → by_size ≡ v → answer (Ok pays) Err (answer (judge (full_row p a forced ∷ [])) Err v) ≡ verdict_of p a forced
   unfolding verdict_of
-  joined v e = sym (ap (answer (Pays pays) Refused) (judge-joined (size_rows forced a (faced_by p)) (full_row p a forced ∷ []) ∙ then_answer (size_rows forced a (faced_by p)) (judge (full_row p a forced ∷ [])) ∙ ap (answer (judge (full_row p a forced ∷ [])) No) e))
+  joined v e = sym (ap (answer (Ok pays) Err) (judge-joined (size_rows forced a (faced_by p)) (full_row p a forced ∷ []) ∙ then_answer (size_rows forced a (faced_by p)) (judge (full_row p a forced ∷ [])) ∙ ap (answer (judge (full_row p a forced ∷ [])) Err) e))
 
-  by-verdict : (v : Verdict) → by_size ≡ v → room_for p.stake forced (answer (Pays pays) Refused v) ≡ verdict_of p a forced
-  by-verdict Stands e = joined Stands e
-  by-verdict (No r) e = joined (No r) e
+  by-verdict : (v : Verdict) → by_size ≡ v → room_for p.stake forced (answer (Ok pays) Err v) ≡ verdict_of p a forced
+  by-verdict (Ok _) e = joined (Ok tt) e
+  by-verdict (Err r) e = joined (Err r) e
 
-  pub verdict-room : (size : BetSize) → size ≡ size_for forced a (faced_by p) → room_for p.stake forced size ≡ verdict_of p a forced
+  pub verdict-room : (size : (Result Float Refusal)) → size ≡ size_for forced a (faced_by p) → room_for p.stake forced size ≡ verdict_of p a forced
   unfolding size_for
   verdict-room size told = ap (room_for p.stake forced) told ∙ by-verdict by_size refl
 
@@ -74,7 +72,7 @@ module _ (t : GameState) (a : Float) (forced ok : Bool) (test : ok ≡ sound_of 
   unfolding bet_of
   bet-bad h = rw (sym test, h)
 
-  module _ (h : ok ≡ true) (size : BetSize) (told : size ≡ verdict_of (payer_in t) a forced) where
+  module _ (h : ok ≡ true) (size : (Result Float Refusal)) (told : size ≡ verdict_of (payer_in t) a forced) where
     abbrev verdict : Verdict
     verdict = judge (verdict_rows (payer_in t) a forced)
 
@@ -85,10 +83,10 @@ module _ (t : GameState) (a : Float) (forced ok : Bool) (test : ok ≡ sound_of 
     unfolding bet_of
     on v e = rw (sym test, h, e)
 
-    pub bet-refused : (r : Refusal) → size ≡ Refused r → not_paid r t ≡ bet_of t a forced
+    pub bet-refused : (r : Refusal) → size ≡ Err r → not_paid r t ≡ bet_of t a forced
     unfolding verdict_of
-    bet-refused r e = on (No r) (falls due verdict r (sym told ∙ e))
+    bet-refused r e = on (Err r) (falls due verdict r (sym told ∙ e))
 
-    pub bet-paid : (x : Float) → size ≡ Pays x → paid_step t x forced ≡ bet_of t a forced
+    pub bet-paid : (x : Float) → size ≡ Ok x → paid_step t x forced ≡ bet_of t a forced
     unfolding verdict_of
-    bet-paid x e = let w = stands due verdict x (sym told ∙ e) in (λ i. paid_step t (sym w.1 i) forced) ∙ on Stands w.0
+    bet-paid x e = let w = stands due verdict x (sym told ∙ e) in (λ i. paid_step t (sym w.1 i) forced) ∙ on (Ok tt) w.0

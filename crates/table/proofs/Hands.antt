@@ -1,5 +1,6 @@
 -- Document 01's hands P1 to P14, and hands that part its rules from readings that tempt, as one table: each is run by the definition that the contract
 -- of do_bet, fold, advance_round or advance_action cites, and the whole is closed by computing. Assumes nothing.
+use Rattle.refusals.specs.Rows.{verdict_number}
 use Prim.Native.Nat.{ℕ}
 use mathlib.Core.Path.{◌≡◌, refl}
 use mathlib.Core.Bool.{Bool, true, false}
@@ -18,11 +19,11 @@ use Rattle.seats.specs.Set.{of_bits}
 use Rattle.rounds.specs.declared.Round.TheVariants.{DealPreflop, Preflop}
 use Rattle.rounds.specs.Paying.{owing_after}
 use Rattle.rounds.specs.Sound.{sound_parts}
-use Rattle.rounds.specs.Steps.{new_data, advance_of as advanceData, number_of, passed_of}
+use Rattle.rounds.specs.Steps.{new_data, advance_of as advanceData, passed_of}
 use Rattle.rounds.specs.Walk.{distance, walk_of}
 use Rattle.rounds.specs.With.{data_of}
 use Rattle.table.specs.declared.GameState.{GameState}
-use Rattle.table.specs.Answers.{bet_number, bet_paid, bet_passed}
+use Rattle.table.specs.Answers.{bet_paid, bet_passed}
 use Rattle.table.specs.Pay.{bet_of, fold_of, award_of}
 use Rattle.table.specs.Rounds.{advance_of, first_turn, is_round}
 use Rattle.table.specs.Sound.{sound_frame, board_ok, cards_ok}
@@ -96,7 +97,7 @@ same x y =
 
 -- a bet of a is refused with this number and moves nothing
 refuses-bet : Bool → ℕ → GameState → Float → Bool
-refuses-bet forced n t a = let s = bet_of t a forced in same (row (bet_number s.answer) (bet_paid s.answer) (bet_passed s.answer) s.table) (row n zerof 0 t)
+refuses-bet forced n t a = let s = bet_of t a forced in same (row (verdict_number s.answer) (bet_paid s.answer) (bet_passed s.answer) s.table) (row n zerof 0 t)
 
 refuses : ℕ → Float → Float → Float → Float → Float → Bool
 refuses n p k b m a = refuses-bet false n (hand p k b m) a
@@ -105,7 +106,7 @@ refuses n p k b m a = refuses-bet false n (hand p k b m) a
 pays-out : Bool → GameState → Float → Float → ℕ → ℕ → ℕ → ℕ → ℕ → Float → Float → Float → Float → ℕ → Bool
 pays-out forced t a x passed seat active all_in owing stack least bet pot raises =
     let s = bet_of t a forced in
-    same (row (bet_number s.answer) (bet_paid s.answer) (bet_passed s.answer) s.table)
+    same (row (verdict_number s.answer) (bet_paid s.answer) (bet_passed s.answer) s.table)
     (record { number = 0; pays = x; passed = passed; seat = seat; active = active; all_in = all_in; owing = owing; stack = stack; least = least; bet = bet; pot = pot; raises = raises })
 
 -- a fold moves the turn and the two sets, and nothing else
@@ -113,7 +114,7 @@ folds : GameState → ℕ → ℕ → ℕ → ℕ → Bool
 folds t passed seat active owing =
     let s = fold_of t in
     let d = t.round_data in
-    same (row (number_of s.answer) zerof (passed_of s.answer) s.table)
+    same (row (verdict_number s.answer) zerof (passed_of s.answer) s.table)
     (record { number = 0; pays = zerof; passed = passed; seat = seat; active = active; all_in = 0; owing = owing; stack = get_or t.stacks 0 nan; least = d.min_raise; bet = d.bet; pot = t.total_pot; raises = d.total_raise_count })
 
 -- an award of so many chips to seat 0, which has k: they go to stack and winnings, and the pot stays
@@ -121,7 +122,7 @@ awards : Float → Float → Float → Bool
 awards k x stack =
     let s = award_of (hand (chips 5) k (chips 10) (chips 10)) 0 x in
     all_of
-    (eqb (number_of s.answer) 0
+    (eqb (verdict_number s.answer) 0
     ∷ eqb (passed_of s.answer) 0
     ∷ eq (get_or s.table.stacks 0 nan) stack
     ∷ eq (get_or s.table.player_winnings 0 nan) x
@@ -136,7 +137,7 @@ opens n active seat passed =
     (table_of n active 0 zerof zeros zeros zeros zeros (chips 10) (chips 5) zerof 0 DealPreflop DealPreflop (new_data n zerof (of_bits active) 0) (replicate 5 0) 0 true true true 3 no_added)
     in
     all_of
-    (eqb (number_of s.answer) 0
+    (eqb (verdict_number s.answer) 0
     ∷ eqb (passed_of s.answer) passed
     ∷ eqb s.table.round_data.to_act_idx seat
     ∷ eqb s.table.round_data.needs_action.set active
@@ -147,7 +148,7 @@ opens n active seat passed =
 walks : ℕ → ℕ → ℕ → Bool
 walks owing seat passed =
     let r = advanceData (new_data 6 zerof (of_bits owing) 5) in
-    all_of (eqb (number_of r.answer) 0 ∷ eqb r.round_data.to_act_idx seat ∷ eqb (passed_of r.answer) passed ∷ [])
+    all_of (eqb (verdict_number r.answer) 0 ∷ eqb r.round_data.to_act_idx seat ∷ eqb (passed_of r.answer) passed ∷ [])
 
 -- ---- document 01's own
 pub paper : List Bool

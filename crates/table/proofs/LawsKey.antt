@@ -1,5 +1,7 @@
 -- The key of the hand, step by step. A step, accepted or refused, leaves what is added as it was (`.. -carries`). And nothing hangs on the key: on a table
 -- with another good key a step gives the same answer, and the same table but for the key (`.. -apart`). Assumes nothing.
+use Rattle.std.specs.Prelude.{Ok, Err}
+use Rattle.refusals.specs.Rows.{Verdict}
 use Prim.Native.Nat.{ℕ}
 use mathlib.Core.Path.{◌≡◌, refl, ◌∙◌}
 use mathlib.Core.Bool.{Bool, true, false, cond, not}
@@ -11,14 +13,11 @@ use Rattle.commons.proofs.Bools.{pick}
 use Rattle.refusals.specs.declared.Refusal.{Refusal}
 use Rattle.refusals.specs.declared.Refusal.TheVariants.{Added}
 use Rattle.refusals.specs.declared.AddedError.TheVariants.{BadRecord, BadSeat}
-use Rattle.refusals.specs.declared.Verdict.{Verdict}
-use Rattle.refusals.specs.declared.Verdict.TheVariants.{Stands, Refused}
 use Rattle.refusals.specs.Rows.{Row, row, give_if, judge, answer}
 use Rattle.refusals.proofs.Rows.{answer-of}
 use Rattle.keys.specs.declared.HandKey.{HandKey}
 use Rattle.keys.specs.Keys.{is_good}
 use Rattle.seats.specs.Bits.{count_to}
-use Rattle.rounds.specs.declared.AmountAnswer.TheVariants.{Is, Unknown}
 use Rattle.table.specs.declared.GameState.{GameState}
 use Rattle.table.specs.declared.AgentAction.{AgentAction}
 use Rattle.table.specs.declared.AgentAction.TheVariants.{Fold, Call, Bet, AllIn}
@@ -107,8 +106,8 @@ questions_apart t k i = (refl, (refl, refl))
 
 -- what is done to each answer of a verdict, or to either of two, is done to the one that is given
 pub given : {A B : Type 0} (f : A → B) (a : A) (g : Refusal → A) (v : Verdict) → answer (f a) (λ r. f (g r)) v ≡ f (answer a g v)
-given f a g Stands = refl
-given f a g (Refused r) = refl
+given f a g (Ok _) = refl
+given f a g (Err r) = refl
 
 pub chosen : {A B : Type 0} (f : A → B) (b : Bool) (x y : A) → cond b (f x) (f y) ≡ f (cond b x y)
 chosen f true x y = refl
@@ -170,4 +169,4 @@ module _ (t : GameState) (k : HandKey) (g : good_added t.added ≡ true) (h : is
   -- the reward is an answer alone
   pub reward_apart : (i : ℕ) → reward_of u i ≡ reward_of t i
   unfolding reward_of
-  reward_apart i = λ z. answer (Is (sub binary32 (get_or t.stacks i nan) (get_or t.starting_stacks i nan))) Unknown (judged (row (not (ltb i t.num_players)) (Added BadSeat) ∷ []) z)
+  reward_apart i = λ z. answer (Ok (sub binary32 (get_or t.stacks i nan) (get_or t.starting_stacks i nan))) Err (judged (row (not (ltb i t.num_players)) (Added BadSeat) ∷ []) z)

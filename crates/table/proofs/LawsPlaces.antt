@@ -1,4 +1,5 @@
 -- R13.8: after any step, refused or not, each list has from n on what it had. Assumes nothing.
+use Rattle.std.specs.Prelude.{Ok}
 use Prim.Native.Nat.{ℕ, ◌<◌, ◌≤◌, min}
 use native.Mathlib.Omega.{arith}
 use mathlib.Core.Path.{◌≡◌, refl}
@@ -12,7 +13,6 @@ use lib.Ieee.{Float, nan, inf, binary32, add}
 use Rattle.floats.specs.Helpers.{zerof}
 use Rattle.commons.proofs.Filled.{filled-out}
 use Rattle.commons.proofs.Bools.{pick, turned}
-use Rattle.refusals.specs.declared.Verdict.TheVariants.{Stands}
 use Rattle.refusals.specs.Rows.{Row, judge}
 use Rattle.refusals.proofs.Rows.{answer-of, fails-at}
 use Rattle.rounds.specs.declared.Round.{Round}
@@ -93,7 +93,7 @@ module _ (t : GameState) where
   is-sound : (b : Bool) → not b ≡ false → b ≡ true
   is-sound b e = turned b false e
 
-  step_kept : (rows : List Row) (s : TableStep) → (judge rows ≡ Stands → StepKept s) → StepKept (step_by rows t s)
+  step_kept : (rows : List Row) (s : TableStep) → (judge rows ≡ (Ok tt) → StepKept s) → StepKept (step_by rows t s)
   step_kept rows s k = answer-of s _ StepKept (judge rows) k (λ r. untouched t)
 
   pub bet-kept : (a : Float) (forced : Bool) → Kept t (bet_of t a forced).table

@@ -18,7 +18,6 @@ use Rattle.refusals.proofs.Rows.{answer-of, fails-at, stands-at-zero}
 use Rattle.seats.specs.Bits.{without, with_if, without_if}
 use Rattle.seats.proofs.Laws.{with-below, without-below}
 use Rattle.rounds.specs.Paying.{left_of, owed_of, owing_after}
-use Rattle.rounds.specs.Steps.{number_of}
 use Rattle.rounds.specs.Walk.{walk_of}
 use Rattle.rounds.proofs.Walk.{walk-seated}
 use Rattle.rounds.specs.declared.Round.{Round}
@@ -198,14 +197,14 @@ module _ (t : GameState) where
   accepted-sound : (rest : List Row) {k : ℕ} → k ≡ verdict_number (judge (bad_record t ∷ rest)) → k ≡ 0 → sound_of t ≡ true
   accepted-sound rest e z = turned (sound_of t) false (fails-at (bad_record t ∷ rest) (stands-at-zero (judge (bad_record t ∷ rest)) (sym e ∙ z)) 0)
 
-  pub fold-accepted : number_of (fold_of t).answer ≡ 0 → sound_of (fold_of t).table ≡ true
+  pub fold-accepted : verdict_number (fold_of t).answer ≡ 0 → sound_of (fold_of t).table ≡ true
   fold-accepted z = folded-sound t (accepted-sound [] (fold_order t) z)
 
-  pub advance-accepted : number_of (advance_of t).answer ≡ 0 → sound_of (advance_of t).table ≡ true
+  pub advance-accepted : verdict_number (advance_of t).answer ≡ 0 → sound_of (advance_of t).table ≡ true
   advance-accepted z = advanced_sound t (accepted-sound [] (advance_order t) z)
 
-  pub complete-accepted : number_of (complete_of t).answer ≡ 0 → sound_of (complete_of t).table ≡ true
+  pub complete-accepted : verdict_number (complete_of t).answer ≡ 0 → sound_of (complete_of t).table ≡ true
   complete-accepted z = completed_sound t (accepted-sound [] (complete_order t) z)
 
-  pub award-accepted : (i : ℕ) (x : Float) → number_of (award_of t i x).answer ≡ 0 → sound_of (award_of t i x).table ≡ true
+  pub award-accepted : (i : ℕ) (x : Float) → verdict_number (award_of t i x).answer ≡ 0 → sound_of (award_of t i x).table ≡ true
   award-accepted i x z = awarded-sound t (accepted-sound (row (not (ltb i t.num_players)) (Added BadSeat) ∷ []) (award_order t i x) z) i x

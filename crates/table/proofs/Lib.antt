@@ -1,3 +1,4 @@
+pub mod Alike
 pub mod Bet
 pub mod Hands
 pub mod LawsKey

@@ -83,13 +83,3 @@ betting-room_for κs a x y = only same
 -- ---- src/soundness.rt
 pub frame-is-sound : OneResult promised.soundness.Frame.is_sound.ended crate.soundness.Frame.is_sound.Reads.Learnt
 frame-is-sound κs a x y = only same
-
--- ---- src/answers.rt
-pub bet-answer-number : OneResult promised.BetAnswer.number.ended crate.BetAnswer.number.Reads.Learnt
-bet-answer-number κs a x y = only same
-
-pub bet-answer-paid : OneResult promised.BetAnswer.paid.ended crate.BetAnswer.paid.Reads.Learnt
-bet-answer-paid κs a x y = only same
-
-pub bet-answer-passed : OneResult promised.BetAnswer.passed.ended crate.BetAnswer.passed.Reads.Learnt
-bet-answer-passed κs a x y = only same

@@ -1,38 +1,28 @@
--- What the test of a record says, test by test; and the cards one at a time, for the loop that looks at them. Assumes nothing.
-use Prim.Native.Nat.{ℕ, zero, suc, ◌-◌, ◌<◌, ◌≤◌, ◌^◌}
+-- What the test of a record says, test by test; and the cards one at a time, for the chain that looks at them. Assumes nothing.
+use Prim.Native.Nat.{ℕ, zero, suc, ◌<◌, ◌≤◌, ◌^◌}
 use native.Mathlib.Omega.{arith}
-use mathlib.Core.Path.{◌≡◌, refl, sym, ◌∙◌}
-use mathlib.Core.Bool.{Bool, true, false}
+use mathlib.Core.Path.{◌≡◌, refl, sym, ap, ◌∙◌}
+use mathlib.Core.Bool.{Bool, true, ◌&&◌}
 use mathlib.Core.List.{List}
+use lib.Dec.{ltb}
 use lib.ListN.{get_or}
-use borrow.Author.Tests.{lt-ltb, le-ltb, le-leb, leb-true, ltb-true, eqb-true}
+use borrow.Author.Tests.{le-leb, leb-true, ltb-true, eqb-true}
+use Rattle.commons.specs.Folds.{all_to}
+use Rattle.commons.proofs.Bools.{and_turned}
 use Rattle.commons.proofs.Tests.{test_at}
 use Rattle.table.specs.declared.GameState.{GameState}
 use Rattle.table.specs.Added.{good_added}
 use Rattle.table.specs.Sound.{cards_ok, board_ok, frame_tests, sound_frame, frame_of, sound_of}
 
--- ---- the cards, one at a time from the last down
-before : (j : ℕ) → suc j - 1 ≡ j
-before j = omega arith
-
-pub bad_card : (k : ℕ) (b : List ℕ) → 0 < k → 52 ≤ get_or b (k - 1) 0 → cards_ok k b ≡ false
-unfolding cards_ok
-bad_card zero b h l = absurd (omega arith)
-bad_card (suc j) b h l = simp (le-ltb (get_or b j 0) 52 (rw (before j) at l))
-
-pub good_card : (k : ℕ) (b : List ℕ) → 0 < k → get_or b (k - 1) 0 < 52 → cards_ok k b ≡ cards_ok (k - 1) b
-unfolding cards_ok
-good_card zero b h l = absurd (omega arith)
-good_card (suc j) b h l = simp (lt-ltb (get_or b j 0) 52 (rw (before j) at l), before j)
+-- ---- the cards, as places
+pub cards-each : (k : ℕ) (b : List ℕ) → cards_ok k b ≡ all_to k (λ i. ltb (get_or b i 0) 52)
+unfolding cards_ok all_to
+cards-each zero b = refl
+cards-each (suc k) b = ap (◌&&◌ (ltb (get_or b k 0) 52)) (cards-each k b) ∙ and_turned (ltb (get_or b k 0) 52) (all_to k (λ i. ltb (get_or b i 0) 52))
 
 pub few-cards : (n : ℕ) (b : List ℕ) → n ≤ 5 → board_ok n b ≡ cards_ok n b
 unfolding board_ok
 few-cards n b h = simp (le-leb n 5 h)
-
-pub no-cards : (k : ℕ) (b : List ℕ) → k ≤ 0 → cards_ok k b ≡ true
-unfolding cards_ok
-no-cards zero b h = refl
-no-cards (suc k) b h = absurd (omega arith)
 
 -- ---- the record
 pub record Sound (t : GameState) : Type 0 where

@@ -1,17 +1,14 @@
 -- Sections 6 to 9: the bet, the payment, the fold, the award and the reward on a record. Definitions only.
-use Rattle.std.specs.Prelude.{ℕ, Bool, not, List, [], ◌∷◌, ◌++◌, ltb, get_or, set, Float}
+use Rattle.std.specs.Prelude.{ℕ, Bool, not, List, [], ◌∷◌, ◌++◌, ltb, get_or, set, Float, Result, Ok, Err}
 use Rattle.std.specs.Float.{nan, binary32}
 use Rattle.std.specs.Float.Ieee.{add, sub}
+use Rattle.refusals.specs.declared.Refusal.{Refusal}
 use Rattle.refusals.specs.declared.Refusal.TheVariants.{Added}
 use Rattle.refusals.specs.declared.AddedError.TheVariants.{BadSeat, CounterFull}
 use Rattle.refusals.specs.Rows.{Row, row, judge, answer}
 use Rattle.seats.specs.Bits.{without}
 use Rattle.bets.specs.declared.Facing.{Facing}
-use Rattle.bets.specs.declared.BetSize.{BetSize}
-use Rattle.bets.specs.declared.BetSize.TheVariants.{Pays, Refused}
 use Rattle.bets.specs.Bet.{facing, size_rows, pays_for}
-use Rattle.rounds.specs.declared.AmountAnswer.{AmountAnswer}
-use Rattle.rounds.specs.declared.AmountAnswer.TheVariants.{Is, Unknown}
 use Rattle.rounds.specs.declared.paying.Payer.{Payer}
 use Rattle.rounds.specs.declared.paying.Stake.{Stake}
 use Rattle.rounds.specs.declared.walking.Reached.{Reached}
@@ -74,12 +71,12 @@ abbrev pub verdict_rows : Payer → Float → Bool → List Row
 verdict_rows p a forced = size_rows forced a (faced_by p) ++ full_row p a forced ∷ []
 
 -- what of a size is left once the counters are looked at
-abbrev pub room_for : Stake → Bool → BetSize → BetSize
-room_for s forced (Refused r) = Refused r
-room_for s forced (Pays x) = answer (Pays x) Refused (judge (row (is_full s x forced) (Added CounterFull) ∷ []))
+abbrev pub room_for : Stake → Bool → Result Float Refusal → Result Float Refusal
+room_for s forced (Err r) = Err r
+room_for s forced (Ok x) = answer (Ok x) Err (judge (row (is_full s x forced) (Added CounterFull) ∷ []))
 
-unfoldable pub verdict_of : Payer → Float → Bool → BetSize
-verdict_of p a forced = answer (Pays (pays_of p a forced)) Refused (judge (verdict_rows p a forced))
+unfoldable pub verdict_of : Payer → Float → Bool → Result Float Refusal
+verdict_of p a forced = answer (Ok (pays_of p a forced)) Err (judge (verdict_rows p a forced))
 
 -- ---- R6.10: the bet: 19, and then the verdict
 abbrev pub bet_rows : GameState → Float → Bool → List Row
@@ -112,5 +109,5 @@ unfoldable pub award_of : GameState → ℕ → Float → TableStep
 award_of t i x = step_by (seat_rows t i) t (done 0 (awarded t i x))
 
 -- ---- R9.2: the reward, the stack less the starting stack
-unfoldable pub reward_of : GameState → ℕ → AmountAnswer
-reward_of t i = answer (Is (sub binary32 (get_or t.stacks i nan) (get_or t.starting_stacks i nan))) Unknown (judge (seat_rows t i))
+unfoldable pub reward_of : GameState → ℕ → Result Float Refusal
+reward_of t i = answer (Ok (sub binary32 (get_or t.stacks i nan) (get_or t.starting_stacks i nan))) Err (judge (seat_rows t i))

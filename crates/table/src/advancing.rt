@@ -3,10 +3,10 @@ ghost use Rattle.std.specs.Prelude.{◌≡◌};
 ghost use Rattle.table.specs.Rounds.{advance_of, advanced_step, complete_of, completed_step, fresh_data, first_turn};
 ghost use Rattle.table.specs.With.{with_round};
 
-use crate::{GameState, TableStep, is_round};
+use crate::{GameState, TableStep};
 use refusals::{AddedError, Refusal};
 use rounds::walking::Reached;
-use rounds::{Round, RoundData, StepAnswer, walking};
+use rounds::{Round, RoundData, walking};
 use seats::PlayerBitSet;
 
 // The walk from the dealer, done once or twice.
@@ -25,43 +25,15 @@ pub fn first_turn(twice: bool, owing: u16, n: usize, dealer: usize) -> Reached
 }
 
 impl GameState {
-    // The record in another round. An enum in a field is not stored to, so the record is made anew.
+    // The record in another round.
     fn with_round(self, round: Round, round_before: Round, round_data: RoundData) -> GameState
         ensures { result ≡ with_round self round round_before round_data }
     {
-        let stacks = self.stacks;
-        let starting_stacks = self.starting_stacks;
-        let player_bet = self.player_bet;
-        let player_winnings = self.player_winnings;
-        let board = self.board;
-        let added = self.added;
         GameState {
-            num_players: self.num_players,
-            player_active: PlayerBitSet {
-                set: self.player_active.set,
-            },
-            player_all_in: PlayerBitSet {
-                set: self.player_all_in.set,
-            },
-            total_pot: self.total_pot,
-            stacks,
-            starting_stacks,
-            player_bet,
-            player_winnings,
-            big_blind: self.big_blind,
-            small_blind: self.small_blind,
-            ante: self.ante,
-            dealer_idx: self.dealer_idx,
             round,
             round_before,
             round_data,
-            board,
-            board_len: self.board_len,
-            bb_posted: self.bb_posted,
-            sb_posted: self.sb_posted,
-            has_max_raises: self.has_max_raises,
-            max_raises_per_round: self.max_raises_per_round,
-            added,
+            ..self
         }
     }
 
@@ -93,11 +65,11 @@ impl GameState {
         let now = before.advance();
         let n = self.num_players;
         let active = self.player_active.set;
-        let twice = is_round(now, 3) & (n == 2);
+        let twice = (now == Round::Preflop) & (n == 2);
         let w = first_turn(twice, active, n, self.dealer_idx);
         let data = self.fresh_data(active, w.seat);
         TableStep {
-            answer: StepAnswer::Done(w.passed),
+            answer: Ok(w.passed),
             table: self.with_round(now, before, data),
         }
     }
@@ -106,17 +78,16 @@ impl GameState {
         ensures { result ≡ advance_of self }
     {
         if self.is_sound() {
-            let round = self.round;
-            if is_round(round, 11) {
+            if self.round == Round::Complete {
                 return TableStep {
-                    answer: StepAnswer::Done(0),
+                    answer: Ok(0),
                     table: self,
                 };
             }
             return self.advance_normal();
         }
         TableStep {
-            answer: StepAnswer::Refused(Refusal::Added(AddedError::BadRecord)),
+            answer: Err(Refusal::Added(AddedError::BadRecord)),
             table: self,
         }
     }
@@ -127,7 +98,7 @@ impl GameState {
         let before = self.round;
         let data = self.fresh_data(0, self.dealer_idx);
         TableStep {
-            answer: StepAnswer::Done(0),
+            answer: Ok(0),
             table: self.with_round(Round::Complete, before, data),
         }
     }
@@ -136,17 +107,16 @@ impl GameState {
         ensures { result ≡ complete_of self }
     {
         if self.is_sound() {
-            let round = self.round;
-            if is_round(round, 11) {
+            if self.round == Round::Complete {
                 return TableStep {
-                    answer: StepAnswer::Done(0),
+                    answer: Ok(0),
                     table: self,
                 };
             }
             return self.completed();
         }
         TableStep {
-            answer: StepAnswer::Refused(Refusal::Added(AddedError::BadRecord)),
+            answer: Err(Refusal::Added(AddedError::BadRecord)),
             table: self,
         }
     }

@@ -4,7 +4,6 @@ ghost use Rattle.table.specs.Pay.{award_of, awarded, reward_of};
 
 use crate::{GameState, TableStep};
 use refusals::{AddedError, Refusal};
-use rounds::{AmountAnswer, StepAnswer};
 
 impl GameState {
     // To the stack and to the winnings; the pot stays.
@@ -28,32 +27,32 @@ impl GameState {
         if self.is_sound() {
             if player_idx < self.num_players {
                 return TableStep {
-                    answer: StepAnswer::Done(0),
+                    answer: Ok(0),
                     table: self.awarded(player_idx, amount),
                 };
             }
             return TableStep {
-                answer: StepAnswer::Refused(Refusal::Added(AddedError::BadSeat)),
+                answer: Err(Refusal::Added(AddedError::BadSeat)),
                 table: self,
             };
         }
         TableStep {
-            answer: StepAnswer::Refused(Refusal::Added(AddedError::BadRecord)),
+            answer: Err(Refusal::Added(AddedError::BadRecord)),
             table: self,
         }
     }
 
-    pub fn player_reward(self, player_idx: usize) -> AmountAnswer
+    pub fn player_reward(self, player_idx: usize) -> Result<f32, Refusal>
         ensures { result ≡ reward_of self player_idx }
     {
         let stacks = self.stacks;
         let starting = self.starting_stacks;
         if self.is_sound() {
             if player_idx < self.num_players {
-                return AmountAnswer::Is(stacks[player_idx] - starting[player_idx]);
+                return Ok(stacks[player_idx] - starting[player_idx]);
             }
-            return AmountAnswer::Unknown(Refusal::Added(AddedError::BadSeat));
+            return Err(Refusal::Added(AddedError::BadSeat));
         }
-        AmountAnswer::Unknown(Refusal::Added(AddedError::BadRecord))
+        Err(Refusal::Added(AddedError::BadRecord))
     }
 }

@@ -3,29 +3,25 @@ ghost use Rattle.std.specs.Prelude.{◌≡◌, ◌<◌};
 ghost use Rattle.table.specs.Choice.{choice_of, paying_nothing};
 ghost use Rattle.table.specs.Pay.{actor, room_for, verdict_of, payer_in, with_payer, paid_step, bet_of, fold_of};
 
-use crate::{AgentAction, BetAnswer, BetStep, GameState, TableStep};
-use bets::{BetSize, Facing};
+use crate::{AgentAction, BetStep, GameState, Paid, TableStep};
+use bets::Facing;
 use refusals::{AddedError, Refusal};
 use rounds::paying::{Payer, Stake};
-use rounds::{StepAnswer, walking};
+use rounds::walking;
 
 // What of a size is left once the counters are looked at: 21.
-pub fn room_for(stake: Stake, is_forced: bool, size: BetSize) -> BetSize
+pub fn room_for(stake: Stake, is_forced: bool, size: Result<f32, Refusal>) -> Result<f32, Refusal>
     ensures { result ≡ room_for stake is_forced size }
 {
-    match size {
-        BetSize::Refused(r) => BetSize::Refused(r),
-        BetSize::Pays(x) => {
-            if stake.is_full(x, is_forced) {
-                return BetSize::Refused(Refusal::Added(AddedError::CounterFull));
-            }
-            BetSize::Pays(x)
-        }
+    let x = size?;
+    if stake.is_full(x, is_forced) {
+        return Err(Refusal::Added(AddedError::CounterFull));
     }
+    Ok(x)
 }
 
 // What the payer pays of an amount: 14 to 17, then 21.
-fn verdict(p: Payer, amount: f32, is_forced: bool) -> BetSize
+fn verdict(p: Payer, amount: f32, is_forced: bool) -> Result<f32, Refusal>
     ensures { result ≡ verdict_of p amount is_forced }
 {
     let stake = p.stake;
@@ -39,13 +35,14 @@ fn verdict(p: Payer, amount: f32, is_forced: bool) -> BetSize
 }
 
 // A fold as a bet's answer: nothing is paid.
-fn paying_nothing(a: StepAnswer) -> BetAnswer
+fn paying_nothing(a: Result<usize, Refusal>) -> Result<Paid, Refusal>
     ensures { result ≡ paying_nothing a }
 {
-    match a {
-        StepAnswer::Done(passed) => BetAnswer::Paid(0.0, passed),
-        StepAnswer::Refused(r) => BetAnswer::NotPaid(r),
-    }
+    let passed = a?;
+    Ok(Paid {
+        amount: 0.0,
+        passed,
+    })
 }
 
 impl GameState {
@@ -117,22 +114,25 @@ impl GameState {
     {
         if !self.is_sound() {
             return BetStep {
-                answer: BetAnswer::NotPaid(Refusal::Added(AddedError::BadRecord)),
+                answer: Err(Refusal::Added(AddedError::BadRecord)),
                 table: self,
             };
         }
         let payer = self.payer();
         match verdict(payer, amount, is_forced) {
-            BetSize::Refused(r) => BetStep {
-                answer: BetAnswer::NotPaid(r),
+            Err(r) => BetStep {
+                answer: Err(r),
                 table: self,
             },
-            BetSize::Pays(x) => {
+            Ok(x) => {
                 let mut paid = payer.pay(x, is_forced);
                 let w = walking::walk(paid.owing, self.round_data.player_bet_len, paid.seat);
                 paid.seat = w.seat;
                 BetStep {
-                    answer: BetAnswer::Paid(x, w.passed),
+                    answer: Ok(Paid {
+                        amount: x,
+                        passed: w.passed,
+                    }),
                     table: self.with_payer(paid),
                 }
             }
@@ -143,7 +143,7 @@ impl GameState {
     pub fn fold(mut self) -> TableStep
         ensures { result ≡ fold_of self }
     {
-        let mut answer = StepAnswer::Refused(Refusal::Added(AddedError::BadRecord));
+        let mut answer = Err(Refusal::Added(AddedError::BadRecord));
         if self.is_sound() {
             let i = self.round_data.to_act_idx;
             let owed = seats::bits::without(self.round_data.needs_action.set, i);
@@ -152,7 +152,7 @@ impl GameState {
             self.player_active.set = active;
             self.round_data.needs_action.set = owed;
             self.round_data.to_act_idx = w.seat;
-            answer = StepAnswer::Done(w.passed);
+            answer = Ok(w.passed);
         }
         TableStep {
             answer,

@@ -3,23 +3,23 @@
 
 pub mod added;
 pub mod advancing;
-mod answers;
 mod awarding;
 pub mod betting;
 mod queries;
 pub mod soundness;
 
 ghost use Rattle.std.specs.Prelude.{◌≡◌};
-ghost use Rattle.table.specs.Rounds.{is_round};
 ghost use Rattle.table.specs.Sound.{frame_of, sound_of};
 ghost use Rattle.table.specs.With.{no_table};
 
 use added::Added;
 use refusals::Refusal;
-use rounds::{Round, RoundData, StepAnswer};
+use rounds::{Round, RoundData};
 use seats::PlayerBitSet;
 use soundness::Frame;
 
+// A list of seats has 16 places and the board 5, with a length beside them, for there is no heap. `has_max_raises` stays beside its number and is no Option:
+// the number beside a cap that is none is a host's, and `laying::lay` promises by `back` that it reads back.
 #[derive(Clone, Copy)]
 pub struct GameState {
     pub num_players: usize,
@@ -46,22 +46,26 @@ pub struct GameState {
     pub added: Added,
 }
 
-// What a bet answers: the payment and how many seats the walk passed to, or why it is refused.
+// What is paid, and how many seats the walk passed to.
 #[derive(Clone, Copy)]
-pub enum BetAnswer {
-    Paid(f32, usize),
-    NotPaid(Refusal),
+pub struct Paid {
+    pub amount: f32,
+    pub passed: usize,
 }
 
+// What a bet gives: what is paid, or why it is refused; and the table, as it was where refused.
+// It is a type of its own, and not one generic step, so that its field says what is given back.
 #[derive(Clone, Copy)]
 pub struct BetStep {
-    pub answer: BetAnswer,
+    pub answer: Result<Paid, Refusal>,
     pub table: GameState,
 }
 
+// What any other step gives: how many seats the walk passed to, 0 where it has no walk, or why it is refused; and the table, as it was where refused.
+// It is a type of its own, and not one generic step, so that its field says what is given back.
 #[derive(Clone, Copy)]
 pub struct TableStep {
-    pub answer: StepAnswer,
+    pub answer: Result<usize, Refusal>,
     pub table: GameState,
 }
 
@@ -72,12 +76,6 @@ pub enum AgentAction {
     Call,
     Bet(f32),
     AllIn,
-}
-
-fn is_round(r: Round, k: u8) -> bool
-    ensures { result ≡ is_round r k }
-{
-    r.number() == k
 }
 
 impl GameState {

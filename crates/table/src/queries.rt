@@ -3,7 +3,8 @@ ghost use Rattle.std.specs.Prelude.{◌≡◌};
 ghost use Rattle.seats.specs.Bits.{count_to};
 ghost use Rattle.table.specs.Queries.{is_capped, is_complete, at_seat, round_bet_at};
 
-use crate::{GameState, is_round};
+use crate::GameState;
+use rounds::Round;
 
 // What stands at a seat of a list of so many, 0.0 outside it.
 fn at_seat(len: usize, list: [f32; 16], i: usize) -> f32
@@ -39,8 +40,7 @@ impl GameState {
     pub fn is_complete(self) -> bool
         ensures { result ≡ is_complete self }
     {
-        let round = self.round;
-        (seats::bits::count(self.player_active.set) == 1) | is_round(round, 11)
+        (seats::bits::count(self.player_active.set) == 1) | (self.round == Round::Complete)
     }
 
     pub fn to_act_idx(self) -> usize

@@ -24,17 +24,10 @@ pub struct Frame {
 fn board_ok(board: [u8; 5], len: usize) -> bool
     ensures { result ≡ board_ok len board }
 {
-    if 5 < len {
-        return false;
+    match board.get(..len) {
+        Some(cards) => cards.iter().all(|card| *card < 52),
+        None => false,
     }
-    let mut k = len;
-    while 0 < k {
-        k -= 1;
-        if 52 <= board[k] {
-            return false;
-        }
-    }
-    true
 }
 
 impl Frame {

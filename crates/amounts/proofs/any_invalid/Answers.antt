@@ -1,17 +1,19 @@
--- `amounts::any_invalid`: after i turns the result is that of the first i. Assumes nothing.
+-- `amounts::any_invalid`: the chain asks each of the first n places. Assumes nothing.
 use native.Mathlib.Omega.{arith}
-use mathlib.Core.Path.{refl}
-use mathlib.Core.Path.{sym}
-use Rattle.amounts.specs.Amounts.{any_invalid}
-use Rattle.amounts.proofs.Folds.{fold_end, invalid-next}
+use mathlib.Core.Path.{ap, ◌∙◌}
+use borrow.Author.Tests.{tests}
+use lib.Ieee.{nan}
+use Rattle.std.proofs.Common.{rules}
+use Rattle.std.proofs.lemmas.Iterator.{YieldsList-from_slice}
+use Rattle.std.proofs.lemmas.Iterator.Search.{any_from_yields_List}
+use Rattle.commons.proofs.Slices.{front, any-places}
+use Rattle.amounts.specs.Amounts.{invalid, any_invalid}
+use Rattle.amounts.proofs.Folds.{invalid-any}
 use Rattle.amounts.proofs.any_invalid.Goals as goal
 
-pub loop-i-init : goal.loop-i-init
-unfolding any_invalid
-loop-i-init c = (omega arith, refl)
-
-pub loop-i-preserved : goal.loop-i-preserved
-loop-i-preserved c = (omega arith, invalid-next _ _ _ _ c.loop-i.invariant.1 c.is_invalid-any.ensures)
-
 pub returns : goal.returns
-returns c = rw (sym c.smaller-n.ensures) (fold_end any_invalid _ _ _ _ c.loop-i.invariant.1 c.loop-i.invariant.0 c.loop-i-test.false)
+returns c =
+    any_from_yields_List invalid _ _ _ c.any.ensures.ran (YieldsList-from_slice _ cc) (λ x b q k. search (rules, tests))
+    ∙ any-places (front nan c.args.list c.min.result (omega (arith, c.well_formed, c.min.ensures))) invalid
+    ∙ invalid-any c.min.result c.args.list
+    ∙ ap (λ n. any_invalid n c.args.list) c.min.ensures

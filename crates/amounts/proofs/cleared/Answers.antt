@@ -1,19 +1,21 @@
--- `amounts::cleared`: after i turns the list is filled up to i. Assumes nothing.
+-- `amounts::cleared`: zeros, and then what stood behind them. Assumes nothing.
 use native.Mathlib.Omega.{arith}
-use mathlib.Core.Path.{refl}
-use lib.Ieee.{of_bits}
-use Rattle.commons.proofs.Filled.{filled_none, filled_next, filled-end}
-use mathlib.Core.Path.{sym}
+use mathlib.Core.Path.{ap, ◌∙◌}
+use mathlib.Core.List.{◌++◌}
+use lib.Ieee.{nan, of_bits}
+use lib.ListN.{drop, replicate}
+use Rattle.std.proofs.lemmas.List.{length-take-le}
+use Rattle.floats.specs.Helpers.{zerof}
+use Rattle.commons.proofs.Pasted.{filled-same}
+use Rattle.commons.specs.Filled.{filled}
 use Rattle.amounts.proofs.cleared.Goals as goal
-
-pub loop-i-init : goal.loop-i-init
-unfolding of_bits
-loop-i-init c = (omega arith, filled_none _ _)
-
-pub loop-i-preserved : goal.loop-i-preserved
-unfolding of_bits
-loop-i-preserved c = (omega arith, filled_next _ _ _ _ _ c.loop-i.invariant.1 refl)
 
 pub returns : goal.returns
 unfolding of_bits
-returns c = rw (sym c.smaller-n.ensures) (filled-end _ _ _ _ _ c.loop-i.invariant.1 c.loop-i.invariant.0 c.loop-i-test.false)
+returns c =
+    let l = c.args.list in
+    let m = c.min.result in
+    (λ i. c.fill.ensures.after (λ y e. e) i ++ drop m l)
+    ∙ (λ i. replicate (length-take-le m l (omega (arith, c.well_formed, c.min.ensures)) i) zerof ++ drop m l)
+    ∙ filled-same nan l m zerof (omega (arith, c.well_formed, c.min.ensures))
+    ∙ ap (λ n. filled n l (λ k. zerof)) c.min.ensures

@@ -1,11 +1,7 @@
--- `amounts::count_above_zero`: after i turns the result is that of the first i. Assumes nothing.
-use Prim.Native.Nat.{◌≤◌, ◌-◌}
+-- `amounts::count_above_zero`: after so many turns the result is that of the first so many. Assumes nothing.
 use mathlib.Core.Path.{◌≡◌}
 use Rattle.amounts.specs.Amounts.{above_of}
 use Rattle.amounts.proofs.count_above_zero.Given as goal
 
-abbrev pub invariant-loop-i : goal.invariant-loop-i
-invariant-loop-i l = (l.i ≤ l.n) × (l.count ≡ above_of l.i l.list)
-
-abbrev pub decreases-loop-i : goal.decreases-loop-i
-decreases-loop-i l = l.n - l.i
+abbrev pub invariant-loop-x : goal.invariant-loop-x
+invariant-loop-x l = l.count ≡ above_of l.x-index l.fn.list

@@ -11,4 +11,4 @@ pub returns : goal.returns
 unfolding of_bits
 returns c =
     let a = c.args in
-    c.copy_f32.ensures ∙ copied-front nan zeros a.list a.len (min a.len 16) (omega arith)
+    c.copy.ensures nan ∙ copied-front nan zeros a.list a.len (min a.len 16) (omega arith)

@@ -12,4 +12,4 @@ pub returns : goal.returns
 unfolding of_bits
 returns c =
     let s = c.args.s.now in
-    c.copy_f32.ensures ∙ copied-front nan zeros s 16 (min (length s) 16) (omega arith)
+    c.copy.ensures nan ∙ copied-front nan zeros s 16 (min (length s) 16) (omega arith)

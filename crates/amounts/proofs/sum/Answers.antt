@@ -1,19 +1,20 @@
--- `amounts::sum`: after i turns the result is that of the first i. Assumes nothing.
+-- `amounts::sum`: after so many turns the result is that of the first so many. Assumes nothing.
 use native.Mathlib.Omega.{arith}
-use mathlib.Core.Path.{refl}
-use lib.Ieee.{of_bits}
-use mathlib.Core.Path.{sym}
+use mathlib.Core.Path.{refl, ap, ◌∙◌}
+use lib.Ieee.{binary32, add, of_bits}
 use Rattle.amounts.specs.Amounts.{sum_of}
-use Rattle.amounts.proofs.Folds.{fold_end, sum-next}
+use Rattle.amounts.proofs.Folds.{taken, fold_end, sum-next}
 use Rattle.amounts.proofs.sum.Goals as goal
 
-pub loop-i-init : goal.loop-i-init
+pub loop-x-init : goal.loop-x-init
 unfolding of_bits sum_of
-loop-i-init c = (omega arith, refl)
+loop-x-init c = refl
 
-pub loop-i-preserved : goal.loop-i-preserved
+pub loop-x-preserved : goal.loop-x-preserved
 unfolding of_bits
-loop-i-preserved c = (omega arith, sum-next _ _ _ c.loop-i.invariant.1)
+loop-x-preserved c =
+    ap (add binary32 c.loop-x.total) (taken c.args.list c.min.result c.loop-x.x-index c.loop-x-test.true)
+    ∙ sum-next _ _ _ c.loop-x.invariant
 
 pub returns : goal.returns
-returns c = rw (sym c.smaller-n.ensures) (fold_end sum_of _ _ _ _ c.loop-i.invariant.1 c.loop-i.invariant.0 c.loop-i-test.false)
+returns c = fold_end c.args.list c.min.result sum_of _ _ _ c.loop-x.invariant c.loop-x.auto.x-index-end c.loop-x-test.false c.min.ensures (omega (arith, c.well_formed))

@@ -1,11 +1,7 @@
--- `amounts::sum`: after i turns the result is that of the first i. Assumes nothing.
-use Prim.Native.Nat.{◌≤◌, ◌-◌}
+-- `amounts::sum`: after so many turns the result is that of the first so many. Assumes nothing.
 use mathlib.Core.Path.{◌≡◌}
 use Rattle.amounts.specs.Amounts.{sum_of}
 use Rattle.amounts.proofs.sum.Given as goal
 
-abbrev pub invariant-loop-i : goal.invariant-loop-i
-invariant-loop-i l = (l.i ≤ l.n) × (l.total ≡ sum_of l.i l.list)
-
-abbrev pub decreases-loop-i : goal.decreases-loop-i
-decreases-loop-i l = l.n - l.i
+abbrev pub invariant-loop-x : goal.invariant-loop-x
+invariant-loop-x l = l.total ≡ sum_of l.x-index l.fn.list

@@ -5,12 +5,12 @@ use Rattle.bets.proofs.size_of.Goals as goal
 
 pub returns-then-doesnt_call : goal.returns-then-doesnt_call
 unfolding sized
-returns-then-doesnt_call c = simp (sym c.is_all_in-all_in.ensures, sym c.doesnt_call.ensures ∙ c.if-doesnt_call.true)
+returns-then-doesnt_call c = simp (sym c.is_all_in-all_in.ensures, sym c.doesnt_call.ensures ∙ c.if-doesnt_call.true, c.into.ensures)
 
 pub returns-then-too_small : goal.returns-then-too_small
 unfolding sized
 returns-then-too_small c =
-    simp (sym c.is_all_in-all_in.ensures, sym c.raise_by.ensures, sym c.doesnt_call.ensures ∙ c.if-doesnt_call.false, sym c.too_small.ensures ∙ c.if-too_small.true)
+    simp (sym c.is_all_in-all_in.ensures, sym c.raise_by.ensures, sym c.doesnt_call.ensures ∙ c.if-doesnt_call.false, sym c.too_small.ensures ∙ c.if-too_small.true, c.into-then-too_small.ensures)
 
 pub returns : goal.returns
 unfolding sized

@@ -1,36 +1,27 @@
--- `chips::sum_chips`: the loop has added the first i places; past the array's end nothing is left to add. Assumes nothing.
-use Rattle.std.proofs.Common.{◌≡◌, min, length, get_or, refl, ◌∙◌, arith}
+-- `chips::sum_chips`: each of 16 is at most 8,000 chips, and past the array's end nothing is left to add. Assumes nothing.
+use Rattle.std.proofs.Common.{rules, min, length, arith}
+use borrow.Author.Tests.{tests}
+use lib.ListN.{take}
 use lib.Ieee.{nan}
-use Rattle.commons.specs.Folds.{sum_to}
-use Rattle.chips.specs.Whole.{sum_chips}
-use Rattle.commons.proofs.Folds.{sum-next}
-use Rattle.chips.proofs.Whole.{chips-le}
+use Rattle.std.proofs.lemmas.Iterator.{YieldsList-from_slice, YieldsList-from_map}
+use Rattle.std.proofs.lemmas.Iterator.Consumers.{fits_by_from_yields_list}
+use Rattle.commons.proofs.Slices.{front, sum-places}
+use Rattle.chips.specs.Whole.{chips_in, sum_chips}
 use Rattle.chips.proofs.Lists.{sum-le, no_more}
 use Rattle.chips.proofs.sum_chips.Goals as goal
 
-pub at_most_16-m-requires : goal.at_most_16-m-requires
-at_most_16-m-requires c = tt
-
-pub loop-i-init : goal.loop-i-init
-unfolding sum_to
-loop-i-init c = (omega arith, refl)
-
-pub chips_in-sum-requires : goal.chips_in-sum-requires
-chips_in-sum-requires c = tt
-
-pub overflow_add-sum : goal.overflow_add-sum
+pub sum-requires-clause-fits : goal.sum-requires-clause-fits
 unfolding sum_chips
-overflow_add-sum c =
+sum-requires-clause-fits c =
     let l = c.args.l in
-    record { fits = omega (arith, c.loop-i.invariant.1, sum-le l c.loop-i.i, c.chips_in-sum.ensures, chips-le (get_or l c.loop-i.i nan)) }
-
-pub loop-i-preserved : goal.loop-i-preserved
-loop-i-preserved c = (omega arith, sum-next _ _ _ _ c.loop-i.invariant.1 c.chips_in-sum.ensures)
+    let m = min c.args.n 16 in
+    fits_by_from_yields_list chips_in (take m l) _ _
+    (YieldsList-from_map _ chips_in (YieldsList-from_slice (take m l) cc) c.map.ensures.closure (λ x r q k. search (rules, tests)))
+    (omega (arith, sum-places (front nan l m (omega arith)) chips_in, sum-le l m))
 
 pub returns : goal.returns
 unfolding sum_chips
 returns c =
-    let end = c.loop-i.invariant in
-    let start = c.args in
-    let e : c.loop-i.i ≡ min start.n (length start.l) = omega (arith, end.0, c.loop-i-test.false) in
-    (rw e at end.1) ∙ no_more start.l start.n
+    let l = c.args.l in
+    let m = min c.args.n (length l) in
+    search (rules, sum-places (front nan l m (omega arith)) chips_in, no_more l c.args.n)

@@ -7,7 +7,7 @@ use Rattle.layers.proofs.is_payable.Goals as goal
 pub returns-then-h-le16 : goal.returns-then-h-le16
 unfolding is_payable
 returns-then-h-le16 c =
-    rw (le-leb _ _ c.if-h-le16.true, c.contested-someone.ensures, c.put_in-chips.ensures, pot-limit c.args.h 8000)
+    rw (le-leb _ _ c.if-h-le16.true, c.contested-someone.ensures, c.put_in-chips.ensures, c.new-seated.ensures, pot-limit c.args.h 8000)
 
 pub returns : goal.returns
 unfolding is_payable

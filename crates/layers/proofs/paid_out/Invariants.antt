@@ -2,8 +2,8 @@
 use Rattle.layers.proofs.Paying.{Paying}
 use Rattle.layers.proofs.paid_out.Given as goal
 
-abbrev pub invariant-loop-h : goal.invariant-loop-h
-invariant-loop-h l = Paying l.h l.paid l.u l.held
+abbrev pub invariant-loop-seated : goal.invariant-loop-seated
+invariant-loop-seated l = Paying l.fn.h l.paid l.u l.held
 
-abbrev pub decreases-loop-h : goal.decreases-loop-h
-decreases-loop-h l = l.u
+abbrev pub decreases-loop-seated : goal.decreases-loop-seated
+decreases-loop-seated l = l.u

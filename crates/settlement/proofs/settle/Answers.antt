@@ -7,15 +7,15 @@ use Rattle.settlement.proofs.settle.Goals as goal
 pub paid_out-requires : goal.paid_out-requires
 paid_out-requires c =
     let t = c.args.table in
-    (sound t (verdict-paid t c.is_payable.result (sym c.verdict.ensures ∙ c.in-Stands.is)).sounds).most
+    (sound t (verdict-paid t c.is_payable.result (sym c.verdict.ensures ∙ c.in-Ok.is)).sounds).most
 
-pub returns-in-Stands : goal.returns-in-Stands
-returns-in-Stands c =
+pub returns-in-Ok : goal.returns-in-Ok
+returns-in-Ok c =
     let hand = c.hand_of-h.ensures in
     c.paid_out.ensures
-    ∙ rw (c.awards.ensures, hand) (settled-by _ _ _ _ _ _ hand c.is_payable.ensures c.verdict.ensures c.in-Stands.is)
+    ∙ rw (c.awards.ensures, hand) (settled-by _ _ _ _ _ _ hand c.is_payable.ensures c.verdict.ensures c.in-Ok.is)
 
-pub returns-in-Refused : goal.returns-in-Refused
-returns-in-Refused c =
+pub returns-in-Err : goal.returns-in-Err
+returns-in-Err c =
     let a = c.args in
-    settled-by a.table a.ranks _ _ _ _ c.hand_of-h.ensures c.is_payable.ensures c.verdict.ensures c.in-Refused.is
+    settled-by a.table a.ranks _ _ _ _ c.hand_of-h.ensures c.is_payable.ensures c.verdict.ensures c.in-Err.is

@@ -5,4 +5,4 @@ use Rattle.builder.proofs.GameStateBuilder.small_blind_or_half.Goals as goal
 
 pub returns : goal.returns
 unfolding small_blind_of of_bits
-returns c = rw c.amount_or.ensures
+returns c = rw (c.unwrap_or.ensures, c.big_blind_told-half.ensures)

@@ -8,4 +8,4 @@ returns-then-n-at c = let t' = kept_so _ (says_nothing c.args.n c.args.at c.args
 
 pub returns : goal.returns
 returns c = let t' = laid_so _ (says-one c.args.n c.args.at c.args.console _ c.if-n-at.false) (rw c.number.ensures at c.print-text.ensures.text)
-    (rw c.number.ensures at c.print-text.ensures.fits) (is-left c.args.n c.args.at (length c.args.out.now) c.if-n-at.false).1 c.copy_u8.ensures in record { value = t'.0; out_after = t'.1 }
+    (rw c.number.ensures at c.print-text.ensures.fits) (is-left c.args.n c.args.at (length c.args.out.now) c.if-n-at.false).1 (c.copy.ensures 0) in record { value = t'.0; out_after = t'.1 }

@@ -1,7 +1,8 @@
--- `console::play::start`: no table is `GameState::none`. Assumes nothing.
+-- `console::play::start`: as the definition says. Assumes nothing.
+use Rattle.std.proofs.Common.{refl}
 use Rattle.console.specs.Play.{at_start}
 use Rattle.console.proofs.play.start.Goals as goal
 
 pub returns : goal.returns
 unfolding at_start
-returns c = simp c.none.ensures
+returns c = refl

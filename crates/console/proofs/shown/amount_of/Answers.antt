@@ -1,35 +1,32 @@
 -- `console::shown::amount_of`: by the tests; what the conversion does not take is not whole. Assumes nothing.
 use Rattle.std.proofs.Common.{T, sym, subst, le-leb}
-use lib.Ieee.{of_bits, neg, in_float}
+use lib.Ieee.{of_bits, neg}
 use borrow.Author.Tests.{lt-leb}
 use Rattle.console.specs.Shown.{amount_of}
 use Rattle.console.proofs.LawsShown.{low, high}
 use Rattle.console.proofs.shown.amount_of.Goals as goal
+use Rattle.console.proofs.shown.amount_of.Goals.{else-n-le16777216-via-then-n-le16777216+else-n-x, else-n-le16777216-via-else-n-le16777216, else-x-via-then-x+else-x-2, else-x-via-else-x}
 
 pub truncating_f32_to_u64-n-requires : goal.truncating_f32_to_u64-n-requires
 unfolding of_bits neg
 truncating_f32_to_u64-n-requires c = record { lower_bound = subst T (sym c.if-x.true) tt; upper_bound = subst T (sym c.if-x-2.true) tt }
 
-pub int_to_float-back : goal.int_to_float-back
-unfolding in_float
-int_to_float-back c = subst T (sym (le-leb _ _ c.if-n-le16777216.true)) tt
-
-pub returns-then-back-x : goal.returns-then-back-x
+pub returns-then-n-x : goal.returns-then-n-x
 unfolding amount_of
-returns-then-back-x c = simp (← c.truncating_f32_to_u64-n.ensures, le-leb _ _ c.if-n-le16777216.true, c.if-back-x.true)
+returns-then-n-x c = simp (← c.truncating_f32_to_u64-n.ensures, le-leb _ _ c.if-n-le16777216.true, c.if-n-x.true)
 
-pub returns-then-n-le16777216 : goal.returns-then-n-le16777216
+pub returns-else-n-le16777216 : goal.returns-else-n-le16777216
 unfolding amount_of
-returns-then-n-le16777216 c = simp (← c.truncating_f32_to_u64-n.ensures, le-leb _ _ c.if-n-le16777216.true, c.if-back-x.false)
+returns-else-n-le16777216 c =
+    elim c.else-n-le16777216.branch [
+      | else-n-le16777216-via-then-n-le16777216+else-n-x w ↦ simp (← c.truncating_f32_to_u64-n.ensures, le-leb _ _ w.if-n-le16777216.true, w.if-n-x.false)
+      | else-n-le16777216-via-else-n-le16777216 w ↦ simp (← c.truncating_f32_to_u64-n.ensures, lt-leb _ _ w.if-n-le16777216.false)
+    ]
 
-pub returns-then-x-2 : goal.returns-then-x-2
-unfolding amount_of
-returns-then-x-2 c = simp (← c.truncating_f32_to_u64-n.ensures, lt-leb _ _ c.if-n-le16777216.false)
-
-pub returns-then-x : goal.returns-then-x
+pub returns-else-x : goal.returns-else-x
 unfolding of_bits neg
-returns-then-x c = sym (high _ c.if-x-2.false)
-
-pub returns : goal.returns
-unfolding of_bits neg
-returns c = sym (low _ c.if-x.false)
+returns-else-x c =
+    elim c.else-x.branch [
+      | else-x-via-then-x+else-x-2 w ↦ sym (high _ w.if-x-2.false)
+      | else-x-via-else-x w ↦ sym (low _ w.if-x.false)
+    ]

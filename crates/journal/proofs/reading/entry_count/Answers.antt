@@ -8,8 +8,8 @@ pub returns-then-n-lt1 : goal.returns-then-n-lt1
 returns-then-n-lt1 c = none-there _ c.if-n-lt1.true
 
 pub overflow_add-result : goal.overflow_add-result
-overflow_add-result c = let most = c.wide.ensures.most in omega arith
+overflow_add-result c = omega arith
 
 pub returns : goal.returns
 unfolding word_count
-returns c = rw c.wide.ensures.value (some-there _ c.if-n-lt1.false)
+returns c = rw c.from.ensures (some-there _ c.if-n-lt1.false)

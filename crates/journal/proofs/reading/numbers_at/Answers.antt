@@ -8,21 +8,9 @@ use Rattle.journal.proofs.reading.numbers_at.Goals as goal
 pub loop-at-init : goal.loop-at-init
 loop-at-init c = (omega arith, begins _ _ _)
 
-pub hand_entry-w-requires : goal.hand_entry-w-requires
-hand_entry-w-requires c = tt
-
-pub is_number-requires : goal.is_number-requires
-is_number-requires c = tt
-
 pub returns-then-not-is_number : goal.returns-then-not-is_number
 returns-then-not-is_number c =
     sym (c.loop-at.invariant.1 ∙ stops _ _ _ _ _ c.loop-at-test.true (ap is_number (sym c.hand_entry-w.ensures) ∙ sym c.is_number.ensures ∙ c.if-not-is_number.true))
-
-pub upper-requires : goal.upper-requires
-upper-requires c = tt
-
-pub put_number-more-requires : goal.put_number-more-requires
-put_number-more-requires c = tt
 
 pub loop-at-preserved : goal.loop-at-preserved
 loop-at-preserved c =

@@ -1,10 +1,6 @@
 -- `journal::words::entry_fits`: by whether it is used. Assumes nothing.
 use Rattle.journal.specs.Block.{entry_fits}
-use borrow.Author.Rules.{rules}
 use Rattle.journal.proofs.words.entry_fits.Goals as goal
-
-pub is_entry-requires : goal.is_entry-requires
-is_entry-requires c = search rules
 
 pub returns-then-used : goal.returns-then-used
 unfolding entry_fits

@@ -1,46 +1,13 @@
--- `journal::words::put_four`: byte by byte. Assumes nothing.
-use lib.ListN.{length-set}
+-- `journal::words::put_four`: four places at once. Assumes nothing.
+use Prim.Native.Nat.{◌/◌, ◌%◌}
 use native.Mathlib.Omega.{arith}
+use mathlib.Core.Path.{◌≡◌, ◌∙◌}
 use Rattle.journal.specs.Put.{four_put}
-use borrow.Author.Rules.{rules}
+use Rattle.journal.proofs.LawsLists.{four_laid}
 use Rattle.journal.proofs.words.put_four.Goals as goal
-
-pub overflow_cast-b : goal.overflow_cast-b
-overflow_cast-b c = search rules
-
-pub bounds-b-i : goal.bounds-b-i
-bounds-b-i c = search rules
-
-pub overflow_cast-b-2 : goal.overflow_cast-b-2
-overflow_cast-b-2 c = search rules
-
-pub overflow_add-b : goal.overflow_add-b
-overflow_add-b c = search rules
-
-pub bounds-b-i-2 : goal.bounds-b-i-2
-bounds-b-i-2 c = simp length-set (omega arith)
-
-pub overflow_cast-b-3 : goal.overflow_cast-b-3
-overflow_cast-b-3 c = search rules
-
-pub overflow_add-b-2 : goal.overflow_add-b-2
-overflow_add-b-2 c = search rules
-
-pub bounds-b-i-3 : goal.bounds-b-i-3
-bounds-b-i-3 c = simp length-set (omega arith)
-
-pub overflow_cast-b-4 : goal.overflow_cast-b-4
-overflow_cast-b-4 c = search rules
-
-pub overflow_add-b-3 : goal.overflow_add-b-3
-overflow_add-b-3 c = search rules
-
-pub bounds-b-i-4 : goal.bounds-b-i-4
-bounds-b-i-4 c = simp length-set (omega arith)
-
-pub shape_of-b : goal.shape_of-b
-shape_of-b c = simp length-set
 
 pub returns : goal.returns
 unfolding four_put
-returns c = search rules
+returns c = rw (c.copy_from_slice.ensures.after, c.to_le_bytes.ensures) (
+    four_laid _ _ _ _ _ _ c.requires
+    ∙ (let e : c.args.w / 16777216 % 256 ≡ c.args.w / 16777216 = omega (arith, c.ranges.w.fits) in rw e))

@@ -1,5 +1,5 @@
 -- `layers::part::shared`: each turn gives one place more its share; k counts the set's seats so far. Assumes nothing.
-use Prim.Native.Nat.{◌≤◌, ◌-◌, ◌+◌}
+use Prim.Native.Nat.{◌≤◌, ◌+◌}
 use mathlib.Core.Path.{◌≡◌}
 use lib.ListN.{get_or}
 use Rattle.seats.specs.Bits.{count_to}
@@ -8,7 +8,4 @@ use Rattle.layers.specs.Sharing.{share_of}
 use Rattle.layers.proofs.part.shared.Given as goal
 
 abbrev pub invariant-loop-i : goal.invariant-loop-i
-invariant-loop-i l = (l.i ≤ 16) × (l.k ≡ count_to l.i l.set) × (l.out ≡ filled l.i l.paid (λ i'. get_or l.paid i' 0 + share_of l.n l.first l.set l.amount i'))
-
-abbrev pub decreases-loop-i : goal.decreases-loop-i
-decreases-loop-i l = 16 - l.i
+invariant-loop-i l = (l.i ≤ 16) × (l.k ≡ count_to l.i l.set) × (l.out ≡ filled l.i l.fn.paid (λ i'. get_or l.fn.paid i' 0 + share_of l.n l.first l.set l.amount i'))

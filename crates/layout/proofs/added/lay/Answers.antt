@@ -10,5 +10,5 @@ pub returns : goal.returns
 returns c =
     record {
       fits = record { code = omega (arith, c.word_of_set.ensures.value, c.word_of_set.ensures.low); year = omega (arith, c.word_of_set-2.ensures.value, c.word_of_set-2.ensures.low) };
-      numbers_after = c.copy_u32.ensures ∙ λ i. copied 0 ADDED c.args.numbers.now 0 (c.word_of_set.ensures.value i ∷ c.word_of_set-2.ensures.value i ∷ c.args.a.key.hand ∷ []) 3;
+      numbers_after = c.copy.ensures 0 ∙ λ i. copied 0 ADDED c.args.numbers.now 0 (c.word_of_set.ensures.value i ∷ c.word_of_set-2.ensures.value i ∷ c.args.a.key.hand ∷ []) 3;
     }

@@ -7,5 +7,5 @@ use Rattle.layout.proofs.laying.lay_data_numbers.Goals as goal
 
 pub returns : goal.returns
 returns c =
-    c.copy_u32-2.ensures
-    ∙ λ i. copied 0 PASSED ((c.copy_u32.ensures ∙ λ j. copied 0 STARTING_PLAYER_ACTIVE c.args.numbers.now 0 (c.data_words-list.ensures j) 7) i) 0 (c.word_of.ensures i ∷ []) 1
+    c.copy-2.ensures 0
+    ∙ λ i. copied 0 PASSED ((c.copy.ensures 0 ∙ λ j. copied 0 STARTING_PLAYER_ACTIVE c.args.numbers.now 0 (c.data_words-list.ensures j) 7) i) 0 (c.word_of.ensures i ∷ []) 1

@@ -1,4 +1,5 @@
 -- `layout::laying::lay_floats`: the single amounts and five lists, one after another. Assumes nothing.
+use lib.Ieee.{nan}
 use mathlib.Core.Path.{ap, ◌∙◌}
 use Rattle.layout.specs.Places.{STACKS, STARTING_STACKS, HAND_BETS, WINNINGS, ROUND_BETS}
 use Rattle.layout.specs.Laid.{laid_list}
@@ -13,7 +14,7 @@ returns c =
           ∙ ap (laid_list WINNINGS t.player_winnings) (c.lay_list-3.ensures.floats_after
           ∙ ap (laid_list HAND_BETS t.player_bet) (c.lay_list-2.ensures.floats_after
           ∙ ap (laid_list STARTING_STACKS t.starting_stacks) (c.lay_list.ensures.floats_after
-          ∙ ap (laid_list STACKS t.stacks) c.copy_f32.ensures))));
+          ∙ ap (laid_list STACKS t.stacks) (c.copy.ensures nan)))));
       fits = record {
         stacks = c.lay_list.ensures.fits;
         starting = c.lay_list-2.ensures.fits;

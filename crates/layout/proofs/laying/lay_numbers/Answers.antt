@@ -8,4 +8,4 @@ use Rattle.layout.proofs.laying.lay_numbers.Goals as goal
 pub returns : goal.returns
 returns c =
     let a = c.args in
-    record { numbers_after = c.lay.ensures.numbers_after ∙ ap (laid_added a.t.added) (c.copy_u32.ensures ∙ λ i. copied 0 0 a.numbers.now 0 (c.numbers_of-list.ensures.value i) ADDED); fits = (c.numbers_of-list.ensures.fits, c.lay.ensures.fits) }
+    record { numbers_after = c.lay.ensures.numbers_after ∙ ap (laid_added a.t.added) (c.copy.ensures 0 ∙ λ i. copied 0 0 a.numbers.now 0 (c.numbers_of-list.ensures.value i) ADDED); fits = (c.numbers_of-list.ensures.fits, c.lay.ensures.fits) }

@@ -1,47 +1,32 @@
--- `order::seatwise::tested`: the loop has tested the seats below i. Assumes nothing.
-use native.Mathlib.Nat.{le_antisymm}
-use native.Mathlib.Omega.{arith}
-use mathlib.Core.Path.{refl}
-use mathlib.Core.Bool.{not, ◌||◌}
+-- `order::seatwise::tested`: each test goes over the seats below n. Assumes nothing.
+use Rattle.std.proofs.Common.{rules, ℕ, ◌∙◌, arith, not, ◌||◌}
+use borrow.Author.Tests.{tests}
 use lib.Dec.{leb}
-use Rattle.commons.specs.Folds.{all_to}
-use Rattle.commons.proofs.Folds.{all-next}
+use lib.Ieee.{Float, nan}
+use Rattle.std.proofs.lemmas.Iterator.{YieldsList-from_slice, YieldsList-from_zip, YieldsList-from_range}
+use Rattle.std.proofs.lemmas.Iterator.Consumers.{YieldsList-from_enumerate, YieldsList-at}
+use Rattle.std.proofs.lemmas.Iterator.Search.{all_from_yields_List}
+use Rattle.seats.specs.Bits.{has}
+use Rattle.commons.proofs.Slices.{front, zipped, counted, ranged, all-places}
+use Rattle.chips.specs.Whole.{chips_in}
 use Rattle.order.proofs.seatwise.tested.Goals as goal
 
-pub loop-i-init : goal.loop-i-init
-unfolding all_to
-loop-i-init c = (omega arith, record { covers = refl; holds = refl; plays = refl })
-
-pub has-plays-requires : goal.has-plays-requires
-has-plays-requires c = tt
-
-pub chips_in-requires : goal.chips_in-requires
-chips_in-requires c = tt
-
-pub chips_in-requires-in-loop-i : goal.chips_in-requires-in-loop-i
-chips_in-requires-in-loop-i c = tt
-
-pub chips_in-requires-in-loop-i-2 : goal.chips_in-requires-in-loop-i-2
-chips_in-requires-in-loop-i-2 c = tt
-
-pub has-requires : goal.has-requires
-has-requires c = tt
-
-pub loop-i-preserved : goal.loop-i-preserved
-loop-i-preserved c =
-    let old = c.loop-i.invariant.1 in
-    let low = c.chips_in.ensures in
-    let high = c.chips_in-in-loop-i.ensures in
-    let stack = c.chips_in-in-loop-i-2.ensures in
-    let plays = c.has-plays.ensures in
-    let owes = c.has.ensures in (
-      omega arith,
-      record {
-        covers = all-next _ _ _ _ old.covers (λ k. leb (low k) (high k));
-        holds = all-next _ _ _ _ old.holds (λ k. not (plays k) || leb 1 (stack k));
-        plays = all-next _ _ _ _ old.plays (λ k. not (owes k) || plays k);
-      },
-    )
-
 pub returns : goal.returns
-returns c = let end = c.loop-i.invariant in rw (le_antisymm end.0 c.loop-i-test.false) at end.1
+returns c =
+    let a = c.args in
+    let covers = λ (p : Float × Float). leb (chips_in p.0) (chips_in p.1) in
+    let holds = λ (p : ℕ × Float). not (has a.active p.0) || leb 1 (chips_in p.1) in
+    let plays = λ (i : ℕ). not (has a.owing i) || has a.active i in
+    record {
+      covers =
+          all_from_yields_List covers c.all.new.self _ _ c.all.ensures.ran
+          (YieldsList-from_zip (YieldsList-from_slice _ cc) (YieldsList-from_slice _ cc)) (λ x b q k. search (rules, tests))
+          ∙ all-places (zipped (front nan a.round a.n (omega arith)) (front nan a.hand a.n (omega arith))) covers;
+      holds =
+          all_from_yields_List holds _ _ _ c.all-2.ensures.ran
+          (YieldsList-from_enumerate (YieldsList-at c.enumerate.ensures.source (YieldsList-from_slice _ cc)) c.enumerate.ensures.count) (λ x b q k. search (rules, tests))
+          ∙ all-places (counted (front nan a.stacks a.n (omega arith))) holds;
+      plays =
+          all_from_yields_List plays _ _ _ c.all-3.ensures.ran (YieldsList-from_range 0 a.n a.n (cc) (omega arith)) (λ x b q k. search (rules, tests))
+          ∙ all-places (ranged a.n) plays;
+    }

@@ -6,18 +6,18 @@ use Rattle.parts.specs.Run.{ran_to}
 use Rattle.parts.proofs.LawsRun.{taken-most, begins, goes_on, ends}
 use Rattle.parts.proofs.running.run_from.Goals as goal
 
-pub loop-k-init : goal.loop-k-init
+pub loop-amount-init : goal.loop-amount-init
 unfolding ran_to of_bits
-loop-k-init c = (omega arith, begins _ _ _ refl)
+loop-amount-init c = begins _ _ _ refl
 
 pub overflow_add-taken : goal.overflow_add-taken
 overflow_add-taken c =
-    omega (arith, c.loop-k.invariant.1.most, taken-most c.do_bet-s.result.answer, c.one_if_taken-taken.ensures)
+    omega (arith, c.well_formed, c.loop-amount.invariant.most, c.loop-amount-test.true, taken-most c.do_bet-s.result.answer, c.one_if_taken-taken.ensures)
 
-pub loop-k-preserved : goal.loop-k-preserved
-loop-k-preserved c =
-    (omega arith, goes_on _ _ _ _ _ _ _ _ _ c.loop-k.invariant.1 c.do_bet-s.ensures c.paid_after-paid.ensures c.one_if_taken-taken.ensures)
+pub loop-amount-preserved : goal.loop-amount-preserved
+loop-amount-preserved c =
+    goes_on _ _ _ _ _ _ _ _ _ c.loop-amount.invariant c.do_bet-s.ensures c.paid_after-paid.ensures c.one_if_taken-taken.ensures
 
 pub returns : goal.returns
 returns c =
-    ends _ _ _ _ _ _ _ c.loop-k.invariant.1 c.loop-k.invariant.0 c.loop-k-test.false
+    ends _ _ _ _ _ _ _ c.loop-amount.invariant c.loop-amount.auto.amount-index-end c.loop-amount-test.false

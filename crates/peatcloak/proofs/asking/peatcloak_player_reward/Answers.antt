@@ -1,5 +1,5 @@
 -- `peatcloak::asking::peatcloak_player_reward`: what the table that stands there answers. Assumes nothing.
-use mathlib.Core.Path.{sym, ◌∙◌}
+use mathlib.Core.Path.{◌∙◌}
 use native.Mathlib.Omega.{arith}
 use Rattle.peatcloak.proofs.LawsAsked.{one_place, rewarded, unrewarded, no_reward}
 use Rattle.peatcloak.proofs.asking.peatcloak_player_reward.Goals as goal
@@ -9,15 +9,15 @@ bounds-out-0 c =
     let a = c.args in
     omega (arith, one_place a.floats.now a.numbers.now _ c.stands.ensures a.player_idx a.out.now c.if-out-stands.true)
 
-pub returns-then-number-eq0 : goal.returns-then-number-eq0
-returns-then-number-eq0 c =
+pub returns-in-Ok : goal.returns-in-Ok
+returns-in-Ok c =
     let a = c.args in
-    let t' = rewarded a.floats.now a.numbers.now _ c.stands.ensures a.player_idx a.out.now c.if-out-stands.true _ c.table-t.ensures _ c.player_reward-answer.ensures _ (sym c.number.ensures ∙ c.if-number-eq0.true) c.amount.ensures in record { value = t'.0; out_after = t'.1 }
+    let t' = rewarded a.floats.now a.numbers.now _ c.stands.ensures a.player_idx a.out.now c.if-out-stands.true _ c.table-t.ensures _ c.player_reward.ensures _ c.in-Ok.is in record { value = t'.0; out_after = t'.1 }
 
-pub returns-then-out-stands : goal.returns-then-out-stands
-returns-then-out-stands c =
+pub returns-in-Err : goal.returns-in-Err
+returns-in-Err c =
     let a = c.args in
-    let t' = unrewarded a.floats.now a.numbers.now _ c.stands.ensures a.player_idx a.out.now c.if-out-stands.true _ c.table-t.ensures _ c.player_reward-answer.ensures _ (λ z. c.if-number-eq0.false (c.number.ensures ∙ z)) (c.word_of_byte.ensures.value ∙ c.number-then-out-stands.ensures) in record { value = t'.0; out_after = t'.1 }
+    let t' = unrewarded a.floats.now a.numbers.now _ c.stands.ensures a.player_idx a.out.now c.if-out-stands.true _ c.table-t.ensures _ c.player_reward.ensures _ _ c.in-Err.is (c.word_of_byte.ensures.value ∙ c.number.ensures) in record { value = t'.0; out_after = t'.1 }
 
 pub returns : goal.returns
 returns c =

@@ -19,12 +19,12 @@ put_numbers-requires c =
     let a = c.args in
     numbers-there a.floats.now a.numbers.now c.requires.numbers_value
 
-pub returns-in-Refused : goal.returns-in-Refused
-returns-in-Refused c =
+pub returns-in-Err : goal.returns-in-Err
+returns-in-Err c =
     let a = c.args in
-    let t' = is-refused a.floats.now a.numbers.now c.requires.in_bounds c.requires.numbers_value a.amount a.is_forced _ c.payer_at-p.ensures _ c.verdict_at.ensures _ _ c.in-Refused.is (c.word_of_byte.ensures.value ∙ c.number.ensures) in record { value = t'.0; floats_after = t'.1.0; numbers_after = t'.1.1.0; stands = t'.1.1.1 }
+    let t' = is-refused a.floats.now a.numbers.now c.requires.in_bounds c.requires.numbers_value a.amount a.is_forced _ c.payer_at-p.ensures _ c.verdict_at.ensures _ _ c.in-Err.is (c.word_of_byte.ensures.value ∙ c.number.ensures) in record { value = t'.0; floats_after = t'.1.0; numbers_after = t'.1.1.0; stands = t'.1.1.1 }
 
-pub returns-in-Pays : goal.returns-in-Pays
-returns-in-Pays c =
+pub returns-in-Ok : goal.returns-in-Ok
+returns-in-Ok c =
     let a = c.args in
-    let t' = is-paid a.floats.now a.numbers.now c.requires.in_bounds c.requires.numbers_value a.amount a.is_forced _ c.payer_at-p.ensures _ c.verdict_at.ensures _ c.in-Pays.is _ c.number_at-n.ensures _ c.pay-after.ensures _ c.walk-w.ensures _ _ c.put_floats.ensures c.put_numbers.ensures.numbers_after c.put_numbers.ensures.fits in record { value = t'.0; floats_after = t'.1.0; numbers_after = t'.1.1.0; stands = t'.1.1.1 }
+    let t' = is-paid a.floats.now a.numbers.now c.requires.in_bounds c.requires.numbers_value a.amount a.is_forced _ c.payer_at-p.ensures _ c.verdict_at.ensures _ c.in-Ok.is _ c.number_at-n.ensures _ c.pay-after.ensures _ c.walk-w.ensures _ _ c.put_floats.ensures c.put_numbers.ensures.numbers_after c.put_numbers.ensures.fits in record { value = t'.0; floats_after = t'.1.0; numbers_after = t'.1.1.0; stands = t'.1.1.1 }

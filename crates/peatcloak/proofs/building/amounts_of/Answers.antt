@@ -2,4 +2,4 @@
 use Rattle.peatcloak.proofs.building.amounts_of.Goals as goal
 
 pub returns : goal.returns
-returns c = rw c.of_slice-l.ensures
+returns c = rw (c.then_some.ensures, c.of_slice-l.ensures)

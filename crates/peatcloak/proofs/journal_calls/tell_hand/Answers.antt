@@ -3,16 +3,11 @@ use mathlib.Core.Path.{refl}
 use Rattle.peatcloak.specs.Writing.{hand_number, hand_out}
 use Rattle.peatcloak.proofs.journal_calls.tell_hand.Goals as goal
 
-pub returns-in-Denied : goal.returns-in-Denied
+pub returns-in-Ok : goal.returns-in-Ok
 unfolding hand_number hand_out
-returns-in-Denied c = record { value = simp (c.in-Denied.is, c.refused.ensures) (refl); out_after = simp (c.in-Denied.is, c.refused.ensures) (refl) }
+returns-in-Ok c = record { value = simp c.in-Ok.is (refl); out_after = simp (c.in-Ok.is, c.tell.ensures, c.word_of.ensures) (refl) }
 
-pub returns-in-NoRoom : goal.returns-in-NoRoom
+pub returns-in-Err : goal.returns-in-Err
 unfolding hand_number hand_out
-returns-in-NoRoom c =
-    record { value = simp (c.in-NoRoom.is, c.tell.ensures, c.word_of.ensures) (refl); out_after = simp (c.in-NoRoom.is, c.tell.ensures, c.word_of.ensures) (refl) }
-
-pub returns-in-Blocks : goal.returns-in-Blocks
-unfolding hand_number hand_out
-returns-in-Blocks c =
-    record { value = simp (c.in-Blocks.is, c.tell-in-Blocks.ensures, c.word_of-in-Blocks.ensures) (refl); out_after = simp (c.in-Blocks.is, c.tell-in-Blocks.ensures, c.word_of-in-Blocks.ensures) (refl) }
+returns-in-Err c =
+    record { value = simp (c.in-Err.is, c.tell_unwritten.ensures.value) (refl); out_after = simp (c.in-Err.is, c.tell_unwritten.ensures.out_after) (refl) }

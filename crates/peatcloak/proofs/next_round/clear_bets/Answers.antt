@@ -1,20 +1,21 @@
--- `peatcloak::next_round::clear_bets`: after k turns the first k places are laid. Assumes nothing.
+-- `peatcloak::next_round::clear_bets`: zeros between what stood before and behind them. Assumes nothing.
+use Prim.Native.Nat.{◌+◌, ◌-◌}
 use native.Mathlib.Omega.{arith}
-use mathlib.Core.Path.{refl}
+use mathlib.Core.Path.{◌≡◌, ◌∙◌}
 use lib.Ieee.{of_bits}
-use lib.ListN.{length-set}
-use Rattle.commons.proofs.Filled.{laid_none, laid_next, laid_end}
+use lib.ListN.{drop, replicate}
+use Rattle.std.proofs.lemmas.List.{length-take-le, length-drop}
+use Rattle.floats.specs.Helpers.{zerof}
+use Rattle.layout.specs.Places.{ROUND_BETS}
+use Rattle.peatcloak.proofs.LawsNextRound.{bets-filled}
 use Rattle.peatcloak.proofs.next_round.clear_bets.Goals as goal
 
-pub loop-k-init : goal.loop-k-init
-loop-k-init c = (omega arith, refl, laid_none _ _ _)
-
-pub loop-k-preserved : goal.loop-k-preserved
-unfolding of_bits
-loop-k-preserved c = let inv = c.loop-k.invariant in (omega arith, simp length-set inv.1, laid_next _ _ _ _ _ _ inv.2 refl)
-
-pub shape_of-floats : goal.shape_of-floats
-shape_of-floats c = c.loop-k.invariant.1
-
 pub returns : goal.returns
-returns c = let inv = c.loop-k.invariant in laid_end _ _ _ _ _ _ inv.2 inv.0 c.loop-k-test.false
+unfolding of_bits
+returns c =
+    let a = c.args in
+    let fs = a.floats.now in
+    let r = c.requires in
+    let same : ROUND_BETS + a.n - ROUND_BETS ≡ a.n = omega arith in
+    bets-filled fs a.n _ (omega (arith, r.in_bounds, r.n_bound))
+    (c.fill.ensures.after (λ y e. e) ∙ (λ i. replicate (length-take-le (ROUND_BETS + a.n - ROUND_BETS) (drop ROUND_BETS fs) (omega (arith, r.in_bounds, r.n_bound, length-drop ROUND_BETS fs)) i) zerof) ∙ λ i. replicate (same i) zerof)

@@ -1,12 +1,13 @@
 -- `peatcloak::outcomes::lay_step`: the number and the seats passed are the answer's. Assumes nothing.
 use lib.Ieee.{of_bits}
+use mathlib.Core.Path.{◌∙◌}
 use Rattle.floats.specs.Helpers.{zerof}
 use Rattle.layout.specs.Outcome.{outcome}
-use Rattle.peatcloak.proofs.LawsCalls.{same_after}
+use Rattle.peatcloak.proofs.LawsCalls.{same_after, passed-or}
 use Rattle.peatcloak.proofs.outcomes.lay_step.Goals as goal
 
 pub returns : goal.returns
 unfolding of_bits
 returns c =
     let a = c.args in
-    let t' = same_after a.floats.now a.numbers.now _ _ _ _ _ (λ i. outcome (c.number.ensures i) a.s.table zerof (c.passed.ensures i)) (c.lay.ensures.value, (c.lay.ensures.floats_after, (c.lay.ensures.numbers_after, c.lay.ensures.stands))) in record { value = t'.0; floats_after = t'.1.0; numbers_after = t'.1.1.0; stands = t'.1.1.1 }
+    let t' = same_after a.floats.now a.numbers.now _ _ _ _ _ (λ i. outcome (c.verdict_number.ensures i) a.s.table zerof ((c.unwrap_or.ensures ∙ passed-or a.s.answer) i)) (c.lay.ensures.value, (c.lay.ensures.floats_after, (c.lay.ensures.numbers_after, c.lay.ensures.stands))) in record { value = t'.0; floats_after = t'.1.0; numbers_after = t'.1.1.0; stands = t'.1.1.1 }

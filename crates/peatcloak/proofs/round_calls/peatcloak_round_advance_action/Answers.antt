@@ -4,12 +4,12 @@ use Rattle.peatcloak.proofs.LawsRounds.{data_stepped, data_nothing}
 use Rattle.rounds.specs.Steps.{advance_of}
 use Rattle.peatcloak.proofs.round_calls.peatcloak_round_advance_action.Goals as goal
 
-pub returns-then-there : goal.returns-then-there
-returns-then-there c =
+pub returns-in-Some : goal.returns-in-Some
+returns-in-Some c =
     let a = c.args in
-    let t' = data_stepped a.floats.now a.numbers.now _ c.read_data-there.ensures advance_of _ _ _ _ (advance-fits a.floats.now a.numbers.now) c.if-there.true c.advance_action.ensures (c.lay_round.ensures.value, (c.lay_round.ensures.floats_after, c.lay_round.ensures.numbers_after)) in record { value = t'.0; floats_after = t'.1.0; numbers_after = t'.1.1.0; stands = t'.1.1.1 }
+    let t' = data_stepped a.floats.now a.numbers.now _ c.read_data.ensures advance_of _ _ _ _ _ (advance-fits a.floats.now a.numbers.now) c.in-Some.is c.advance_action.ensures (c.lay_round.ensures.value, (c.lay_round.ensures.floats_after, c.lay_round.ensures.numbers_after)) in record { value = t'.0; floats_after = t'.1.0; numbers_after = t'.1.1.0; stands = t'.1.1.1 }
 
-pub returns : goal.returns
-returns c =
+pub returns-in-None : goal.returns-in-None
+returns-in-None c =
     let a = c.args in
-    let t' = data_nothing a.floats.now a.numbers.now _ c.read_data-there.ensures _ c.if-there.false in record { value = t'.0; floats_after = t'.1.0; numbers_after = t'.1.1.0; stands = t'.1.1.1 }
+    let t' = data_nothing a.floats.now a.numbers.now _ c.read_data.ensures _ c.in-None.is in record { value = t'.0; floats_after = t'.1.0; numbers_after = t'.1.1.0; stands = t'.1.1.1 }

@@ -6,12 +6,12 @@ use Rattle.peatcloak.proofs.LawsRounds.{data_stepped, data_nothing}
 use Rattle.rounds.specs.Steps.{bet_of}
 use Rattle.peatcloak.proofs.round_calls.peatcloak_round_do_bet.Goals as goal
 
-pub returns-then-there : goal.returns-then-there
-returns-then-there c =
+pub returns-in-Some : goal.returns-in-Some
+returns-in-Some c =
     let a = c.args in
-    let t' = data_stepped a.floats.now a.numbers.now _ c.read_data-there.ensures (λ d. bet_of d a.extra_amount (not (eqb a.is_forced 0))) _ _ _ _ (bet-fits a.floats.now a.numbers.now a.extra_amount (not (eqb a.is_forced 0))) c.if-there.true c.do_bet.ensures (c.lay_round.ensures.value, (c.lay_round.ensures.floats_after, c.lay_round.ensures.numbers_after)) in record { value = t'.0; floats_after = t'.1.0; numbers_after = t'.1.1.0; stands = t'.1.1.1 }
+    let t' = data_stepped a.floats.now a.numbers.now _ c.read_data.ensures (λ d. bet_of d a.extra_amount (not (eqb a.is_forced 0))) _ _ _ _ _ (bet-fits a.floats.now a.numbers.now a.extra_amount (not (eqb a.is_forced 0))) c.in-Some.is c.do_bet.ensures (c.lay_round.ensures.value, (c.lay_round.ensures.floats_after, c.lay_round.ensures.numbers_after)) in record { value = t'.0; floats_after = t'.1.0; numbers_after = t'.1.1.0; stands = t'.1.1.1 }
 
-pub returns : goal.returns
-returns c =
+pub returns-in-None : goal.returns-in-None
+returns-in-None c =
     let a = c.args in
-    let t' = data_nothing a.floats.now a.numbers.now _ c.read_data-there.ensures _ c.if-there.false in record { value = t'.0; floats_after = t'.1.0; numbers_after = t'.1.1.0; stands = t'.1.1.1 }
+    let t' = data_nothing a.floats.now a.numbers.now _ c.read_data.ensures _ c.in-None.is in record { value = t'.0; floats_after = t'.1.0; numbers_after = t'.1.1.0; stands = t'.1.1.1 }

@@ -10,7 +10,7 @@ loop-at-init c = refl
 pub returns-then-is_opening : goal.returns-then-is_opening
 returns-then-is_opening c =
     let x = line c.loop-at-test.true c.read_line-read.ensures c.obey-act.ensures in
-    sym (stops-here x (sym c.is_opening.ensures ∙ c.if-is_opening.true)) ∙ c.loop-at.invariant
+    sym (stops-here x (sym (rw c.number.ensures at c.is_opening.ensures) ∙ c.if-is_opening.true)) ∙ c.loop-at.invariant
 
 pub loop-at-smaller : goal.loop-at-smaller
 loop-at-smaller c =
@@ -20,7 +20,7 @@ loop-at-smaller c =
 pub loop-at-preserved : goal.loop-at-preserved
 loop-at-preserved c =
     let x = line c.loop-at-test.true c.read_line-read.ensures c.obey-act.ensures in
-    sym (goes_on x (sym c.is_opening.ensures ∙ c.if-is_opening.false)) ∙ c.loop-at.invariant
+    sym (goes_on x (sym (rw c.number.ensures at c.is_opening.ensures) ∙ c.if-is_opening.false)) ∙ c.loop-at.invariant
 
 pub returns : goal.returns
 returns c = sym (at-end _ _ _ c.loop-at-test.false) ∙ c.loop-at.invariant

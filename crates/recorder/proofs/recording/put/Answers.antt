@@ -6,16 +6,12 @@ use Rattle.recorder.proofs.recording.put.Goals as goal
 
 pub slice_bounds-put_line-end : goal.slice_bounds-put_line-end
 slice_bounds-put_line-end c =
-    used-counted c.args.count _ _ c.smaller-used.ensures (omega (arith, c.well_formed))
+    used-counted c.args.count _ _ c.min-used.ensures (omega (arith, c.well_formed))
 
-pub returns-in-Denied : goal.returns-in-Denied
+pub returns-in-Err : goal.returns-in-Err
 unfolding after_put
-returns-in-Denied c = let t' = put_so c.args.f _ _ c.args.tape.now (used_takes c.args.count c.args.numbers _ c.smaller-used.ensures (omega (arith, c.well_formed))) c.put_line.ensures.answer c.in-Denied.is c.put_line.ensures.tape in record { value = t'.0; tape_after = t'.1 }
+returns-in-Err c = let t' = put_so c.args.f _ _ c.args.tape.now (used_takes c.args.count c.args.numbers _ c.min-used.ensures (omega (arith, c.well_formed))) c.put_line.ensures.answer c.in-Err.is c.put_line.ensures.tape in record { value = t'.0; tape_after = t'.1 }
 
-pub returns-in-NoRoom : goal.returns-in-NoRoom
+pub returns-in-Ok : goal.returns-in-Ok
 unfolding after_put
-returns-in-NoRoom c = let t' = put_so c.args.f _ _ c.args.tape.now (used_takes c.args.count c.args.numbers _ c.smaller-used.ensures (omega (arith, c.well_formed))) c.put_line.ensures.answer c.in-NoRoom.is c.put_line.ensures.tape in record { value = t'.0; tape_after = t'.1 }
-
-pub returns-in-Laid : goal.returns-in-Laid
-unfolding after_put
-returns-in-Laid c = let t' = put_so c.args.f _ _ c.args.tape.now (used_takes c.args.count c.args.numbers _ c.smaller-used.ensures (omega (arith, c.well_formed))) c.put_line.ensures.answer c.in-Laid.is c.put_line.ensures.tape in record { value = t'.0; tape_after = t'.1 }
+returns-in-Ok c = let t' = put_so c.args.f _ _ c.args.tape.now (used_takes c.args.count c.args.numbers _ c.min-used.ensures (omega (arith, c.well_formed))) c.put_line.ensures.answer c.in-Ok.is c.put_line.ensures.tape in record { value = t'.0; tape_after = t'.1 }

@@ -9,4 +9,4 @@ returns-then-is_sound c = simp (sym c.is_sound.ensures ∙ c.if-is_sound.true, c
 
 pub returns : goal.returns
 unfolding advance_of
-returns c = simp (sym c.is_sound.ensures ∙ c.if-is_sound.false)
+returns c = simp (sym c.is_sound.ensures ∙ c.if-is_sound.false, c.into.ensures)

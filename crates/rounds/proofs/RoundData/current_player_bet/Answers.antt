@@ -17,4 +17,4 @@ returns-then-is_sound c = simp (sym c.is_sound.ensures ∙ c.if-is_sound.true)
 
 pub returns-else-is_sound : goal.returns-else-is_sound
 unfolding current_bet
-returns-else-is_sound c = simp (sym c.is_sound.ensures ∙ c.if-is_sound.false)
+returns-else-is_sound c = simp (sym c.is_sound.ensures ∙ c.if-is_sound.false, c.into.ensures)

@@ -12,7 +12,7 @@ stake-stake-requires c = (sound _ _ _ (sym c.is_sound.ensures ∙ c.if-is_sound.
 pub returns-then-is_full : goal.returns-then-is_full
 returns-then-is_full c =
     let a = c.args in
-    full a.self a.extra_amount a.is_forced _ c.is_sound.ensures c.if-is_sound.true _ (c.is_full.ensures ∙ (λ i. is_full (c.stake-stake.ensures i) a.extra_amount a.is_forced)) c.if-is_full.true
+    rw c.into.ensures (full a.self a.extra_amount a.is_forced _ c.is_sound.ensures c.if-is_sound.true _ (c.is_full.ensures ∙ (λ i. is_full (c.stake-stake.ensures i) a.extra_amount a.is_forced)) c.if-is_full.true)
 
 pub with_stake-requires : goal.with_stake-requires
 with_stake-requires c =
@@ -28,4 +28,4 @@ returns-then-is_sound c =
 pub returns : goal.returns
 returns c =
     let a = c.args in
-    bad a.self a.extra_amount a.is_forced _ c.is_sound.ensures c.if-is_sound.false
+    rw c.into-2.ensures (bad a.self a.extra_amount a.is_forced _ c.is_sound.ensures c.if-is_sound.false)

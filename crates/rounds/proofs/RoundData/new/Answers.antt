@@ -10,4 +10,4 @@ returns-then-is_sound c = simp (sym c.is_sound.ensures ∙ c.if-is_sound.true)
 
 pub returns : goal.returns
 unfolding new_of
-returns c = simp (sym c.is_sound.ensures ∙ c.if-is_sound.false, c.none.ensures)
+returns c = simp (sym c.is_sound.ensures ∙ c.if-is_sound.false, c.none.ensures, c.into.ensures)

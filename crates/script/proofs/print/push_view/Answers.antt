@@ -6,22 +6,22 @@ use Rattle.script.specs.Print.{view_text}
 use Rattle.script.proofs.LawsPrint.{and_then, short, amount-short}
 use Rattle.script.proofs.print.push_view.Goals as goal
 
-pub returns-in-NoTable : goal.returns-in-NoTable
+pub returns-in-None : goal.returns-in-None
 unfolding view_text
-returns-in-NoTable c =
-    rw c.in-NoTable.is
-    (and_then (and_then (and_then c.push_dash.ensures c.push_dash-in-NoTable.ensures) c.push_dash-in-NoTable-2.ensures) c.push_dash-in-NoTable-3.ensures, omega arith)
+returns-in-None c =
+    rw c.in-None.is
+    (and_then (and_then (and_then c.push_dash.ensures c.push_dash-in-None.ensures) c.push_dash-in-None-2.ensures) c.push_dash-in-None-3.ensures, omega arith)
 
-pub returns-in-Table : goal.returns-in-Table
+pub returns-in-Some : goal.returns-in-Some
 unfolding view_text
-returns-in-Table c =
-    rw c.in-Table.is (
-      and_then (and_then (and_then c.push_next.ensures c.push_next-in-Table.ensures) c.push_amount.ensures) c.push_amount-in-Table.ensures,
+returns-in-Some c =
+    rw c.in-Some.is (
+      and_then (and_then (and_then c.push_next.ensures c.push_next-u.ensures) c.push_amount.ensures) c.push_amount-in-Some.ensures,
       simp length-append (omega (
         arith,
-        short 2 c.in-Table.round (omega arith),
-        short 19 c.in-Table.seat (omega arith),
-        amount-short c.in-Table.pot,
-        amount-short c.in-Table.bet,
+        short 2 c.in-Some.s.round (omega arith),
+        short 19 c.in-Some.s.seat (omega arith),
+        amount-short c.in-Some.s.pot,
+        amount-short c.in-Some.s.bet,
       )),
     )

@@ -5,12 +5,6 @@ use native.Mathlib.Omega.{arith}
 use Rattle.script.proofs.LawsWords.{stops, goes_on, whole, no-letter, filled, has-letter}
 use Rattle.script.proofs.words.words_of.Goals as goal
 
-pub find-requires : goal.find-requires
-find-requires c = tt
-
-pub no_words-requires : goal.no_words-requires
-no_words-requires c = tt
-
 pub returns-then-find-ne1 : goal.returns-then-find-ne1
 returns-then-find-ne1 c =
     c.no_words.ensures ∙ sym (no-letter _ (λ e. c.if-find-ne1.true (c.find.ensures.value ∙ e)))
@@ -21,28 +15,16 @@ bounds-line-0 c = filled _ (sym c.find.ensures.value ∙ c.if-find-ne1.false)
 pub loop-at-init : goal.loop-at-init
 loop-at-init c = (omega arith, has-letter _ (sym c.find.ensures.value ∙ c.if-find-ne1.false))
 
-pub find-end-requires : goal.find-end-requires
-find-end-requires c = tt
-
-pub number_of-requires : goal.number_of-requires
-number_of-requires c = tt
-
-pub put_number-more-requires : goal.put_number-more-requires
-put_number-more-requires c = tt
-
 pub loop-at-preserved : goal.loop-at-preserved
 loop-at-preserved c =
     let inv = c.loop-at.invariant in (
       omega arith,
-      inv.1 ∙ goes_on _ _ _ _ _ c.loop-at-test.true _ c.find-end.ensures.value _ _ (sym c.number_of.ensures ∙ c.in-Is.is) c.put_number-more.ensures,
+      inv.1 ∙ goes_on _ _ _ _ _ c.loop-at-test.true _ c.find-end.ensures.value _ _ (sym c.number_of.ensures ∙ c.in-Some.is) c.put_number-more.ensures,
     )
 
-pub no_words-requires-in-No : goal.no_words-requires-in-No
-no_words-requires-in-No c = tt
-
-pub returns-in-No : goal.returns-in-No
-returns-in-No c =
-    c.no_words-in-No.ensures ∙ sym (c.loop-at.invariant.1 ∙ stops _ _ _ _ _ c.loop-at-test.true _ c.find-end.ensures.value (sym c.number_of.ensures ∙ c.in-No.is))
+pub returns-in_default : goal.returns-in_default
+returns-in_default c =
+    c.no_words-in_default.ensures ∙ sym (c.loop-at.invariant.1 ∙ stops _ _ _ _ _ c.loop-at-test.true _ c.find-end.ensures.value (sym c.number_of.ensures ∙ c.in_default.is))
 
 pub returns : goal.returns
 returns c = sym (c.loop-at.invariant.1 ∙ whole _ _ _ _ _ c.loop-at-test.false)

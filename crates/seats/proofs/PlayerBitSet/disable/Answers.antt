@@ -9,4 +9,4 @@ returns-then-idx-lt16 c = simp (lt-ltb _ _ c.if-idx-lt16.true, c.without.ensures
 
 pub returns-else-idx-lt16 : goal.returns-else-idx-lt16
 unfolding disable_of
-returns-else-idx-lt16 c = simp (le-ltb _ _ c.if-idx-lt16.false)
+returns-else-idx-lt16 c = simp (le-ltb _ _ c.if-idx-lt16.false, c.into.ensures)

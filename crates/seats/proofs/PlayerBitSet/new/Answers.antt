@@ -9,4 +9,4 @@ returns-then-players-le16 c = simp (le-leb _ _ c.if-players-le16.true, c.up_to.e
 
 pub returns-else-players-le16 : goal.returns-else-players-le16
 unfolding new_of
-returns-else-players-le16 c = simp (lt-leb _ _ c.if-players-le16.false)
+returns-else-players-le16 c = simp (lt-leb _ _ c.if-players-le16.false, c.into.ensures)

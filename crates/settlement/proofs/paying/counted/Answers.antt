@@ -1,18 +1,17 @@
 -- `settlement::paying::counted`: each turn fills one place more. Assumes nothing.
-use Rattle.std.proofs.Common.{arith}
-use Rattle.commons.proofs.Filled.{filled_none, filled_next, filled-end}
+use Rattle.std.proofs.Common.{◌≡◌, arith}
+use Rattle.commons.proofs.Filled.{filled_none, filled_next}
 use Rattle.settlement.specs.Hand.{counted_of}
 use Rattle.settlement.proofs.paying.counted.Goals as goal
 
 pub loop-i-init : goal.loop-i-init
 loop-i-init c = (omega arith, filled_none _ _)
 
-pub chips_in-requires : goal.chips_in-requires
-chips_in-requires c = tt
-
 pub loop-i-preserved : goal.loop-i-preserved
 loop-i-preserved c = (omega arith, filled_next _ _ _ _ _ c.loop-i.invariant.1 c.chips_in.ensures)
 
 pub returns : goal.returns
 unfolding counted_of
-returns c = filled-end _ _ _ _ _ c.loop-i.invariant.1 c.loop-i.invariant.0 c.loop-i-test.false
+returns c =
+    let e : c.loop-i.i ≡ 16 = omega arith in
+    rw e at c.loop-i.invariant.1

@@ -1,12 +1,9 @@
 -- `settlement::paying::with_awards`: each turn raises one place more. Assumes nothing.
-use Rattle.std.proofs.Common.{◌≡◌, ◌-◌, ◌≤◌, get_or}
+use Rattle.std.proofs.Common.{◌≡◌, length, get_or}
 use lib.Ieee.{nan}
 use Rattle.commons.specs.Filled.{filled}
 use Rattle.settlement.specs.Settlement.{raised}
 use Rattle.settlement.proofs.paying.with_awards.Given as goal
 
 abbrev pub invariant-loop-i : goal.invariant-loop-i
-invariant-loop-i l = (l.i ≤ l.n) × (l.out ≡ filled l.i l.l (λ i'. raised (get_or l.l i' nan) (get_or l.awards i' 0)))
-
-abbrev pub decreases-loop-i : goal.decreases-loop-i
-decreases-loop-i l = l.n - l.i
+invariant-loop-i l = l.out ≡ filled (length l.yielded) l.fn.l (λ k. raised (get_or l.fn.l k nan) (get_or l.fn.awards k 0))

@@ -21,18 +21,18 @@ pub with_payer-requires : goal.with_payer-requires
 with_payer-requires c =
     (passed c.args.self _ c.is_sound.ensures c.if-not-is_sound.false).place
 
-pub returns-in-Refused : goal.returns-in-Refused
-returns-in-Refused c =
+pub returns-in-Err : goal.returns-in-Err
+returns-in-Err c =
     let a = c.args in
-    bet-refused a.self a.amount a.is_forced _ c.is_sound.ensures c.if-not-is_sound.false _ (c.verdict.ensures ∙ λ i. verdict_of (c.payer-payer.ensures i) a.amount a.is_forced) _ c.in-Refused.is
+    bet-refused a.self a.amount a.is_forced _ c.is_sound.ensures c.if-not-is_sound.false _ (c.verdict.ensures ∙ λ i. verdict_of (c.payer-payer.ensures i) a.amount a.is_forced) _ c.in-Err.is
 
-pub returns-in-Pays : goal.returns-in-Pays
-returns-in-Pays c =
+pub returns-in-Ok : goal.returns-in-Ok
+returns-in-Ok c =
     let a = c.args in
     let t = a.self in
-    let x = c.in-Pays.x in
+    let x = c.in-Ok.x in
     let p = c.pay-paid.ensures ∙ λ i. pay_of (c.payer-payer.ensures i) x a.is_forced in
     let w = c.walk-w.ensures ∙ λ i. walk_of (p i).owing t.round_data.player_bet_len (p i).seat in
     (λ i. paid x c.walk-w.result.passed (c.with_payer.ensures i))
     ∙ (λ i. paid x (w i).passed (with_payer t (seated (p i) (w i).seat)))
-    ∙ bet-paid t a.amount a.is_forced _ c.is_sound.ensures c.if-not-is_sound.false _ (c.verdict.ensures ∙ λ i. verdict_of (c.payer-payer.ensures i) a.amount a.is_forced) _ c.in-Pays.is
+    ∙ bet-paid t a.amount a.is_forced _ c.is_sound.ensures c.if-not-is_sound.false _ (c.verdict.ensures ∙ λ i. verdict_of (c.payer-payer.ensures i) a.amount a.is_forced) _ c.in-Ok.is

@@ -1,7 +1,0 @@
--- `layout::words::word_at`: a place that is not there is 0. Assumes nothing.
-use mathlib.Core.Path.{sym}
-use lib.ListN.{get_or-eq_default}
-use Rattle.layout.proofs.words.word_at.Goals as goal
-
-pub returns : goal.returns
-returns c = let a = c.args in sym (get_or-eq_default a.numbers.now 0 {n = a.k} c.if-k-numbers.false)
