@@ -14,10 +14,10 @@
  *
  * Stack: a call takes at most so many bytes on x86-64 in this version, with its return address, and without what C's
  * memcpy and memset take themselves: peatcloak_do_bet 336, _fold 224, _advance_round 240, _complete 1,560, _award
- * 1,832, _settle 2,952, _build 3,000, _queries 1,016, _player_reward 1,048; _play 9,384, _play_table 10,824,
- * _replay_hand 7,336, where the largest single frame is 3,408 (a line played, console::act::obey); _write_hand 1,160,
- * _write_block 600, _read_hand 208, _read_block 96, _line_at 192, _put_line 56; _round_do_bet 136, _round_new 48,
- * _round_new_with_bets 168, _round_advance_action 40, _round_queries 166; every other call 8.
+ * 1,832, _settle 2,904, _build 3,000, _queries 1,016, _player_reward 1,048; _play 9,400, _play_table 10,840,
+ * _replay_hand 7,352, where the largest single frame is 3,424 (a line played, console::act::obey); _write_hand 1,144,
+ * _write_block 600, _read_hand 208, _read_block 96, _line_at 192, _put_line 56; _round_do_bet 129, _round_new 32,
+ * _round_new_with_bets 152, _round_advance_action 24, _round_queries 148; every other call 8.
  *
  * A function answers 0, or the refusal number of documents 01 and 02; then nothing at all is written, but where it is
  * said: peatcloak_write_hand and peatcloak_replay_hand may tell a number in out. 19 is also given where a list is too

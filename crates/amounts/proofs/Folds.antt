@@ -12,13 +12,17 @@ use Rattle.commons.specs.Folds.{any_to}
 use Rattle.floats.specs.Helpers.{zerof, max_of}
 use Rattle.amounts.specs.Amounts.{sum_of, largest_of, above_of, invalid, any_invalid}
 
+-- the end of a loop over n places
+pub fold_end : {A : Type 0} (f : ℕ → List Float → A) (l : List Float) (i n : ℕ) (x : A) → x ≡ f i l → i ≤ n → n ≤ i → x ≡ f n l
+fold_end f l i n x e h g = let q : i ≡ n = omega arith in e ∙ rw q
+
 -- in the first m places of a list stands what stands in it, and a loop over them ends at the m-th
 module _ (l : List Float) (m : ℕ) where
   pub taken : (i : ℕ) → i < length (take m l) → get_or (take m l) i nan ≡ get_or l i nan
   taken i h = get_or-take m l i nan (omega (arith, length-take m l))
 
-  pub fold_end : {A : Type 0} (f : ℕ → List Float → A) (i n : ℕ) (x : A) → x ≡ f i l → i ≤ length (take m l) → length (take m l) ≤ i → m ≡ n → n ≤ length l → x ≡ f n l
-  fold_end f i n x e h g a b = let q : i ≡ n = omega (arith, length-take m l) in e ∙ rw q
+  pub taken-end : {A : Type 0} (f : ℕ → List Float → A) (i n : ℕ) (x : A) → x ≡ f i l → i ≤ length (take m l) → length (take m l) ≤ i → m ≡ n → n ≤ length l → x ≡ f n l
+  taken-end f i n x e h g a b = fold_end f l i n x e (omega (arith, length-take m l)) (omega (arith, length-take m l))
 
 pub sum-next : (l : List Float) (i : ℕ) (x : Float) → x ≡ sum_of i l → add binary32 x (get_or l i nan) ≡ sum_of (i + 1) l
 unfolding sum_of

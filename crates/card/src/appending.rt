@@ -1,8 +1,7 @@
 // A hand appended to a file: whole, by one write, and synced. Where that fails the file is cut back to what stood before.
 use crate::cards::BLOCK;
 use crate::statuses::Failure;
-use crate::telling::{fail, say, say_bytes};
-use crate::texts::KeyText;
+use crate::telling::{fail, say, say_bytes, say_key, say_number};
 use crate::{cards, inputs};
 use keys::HandKey;
 use std::fs::File;
@@ -63,8 +62,9 @@ fn cut_back(rt: &HostRuntime, to: Target<'_>, stood: usize, put: usize, before: 
     }
     say(rt, "journal: ");
     say_bytes(rt, path);
-    let blocks = stood / BLOCK;
-    let _ = eprintln!(rt; " is cut back to what stood before that hand: blocks {blocks}");
+    say(rt, " is cut back to what stood before that hand: blocks ");
+    say_number(rt, (stood / BLOCK) as u64);
+    say(rt, "\n");
 }
 
 // The bytes of a hand behind so many that stand. Behind what another program has put there nothing is appended: nobody has checked it.
@@ -81,28 +81,31 @@ fn write_synced(mut file: &File, hand: &[u8], stood: usize) -> Result<(), NotApp
 }
 
 fn tell(rt: &HostRuntime, to: Target<'_>, key: HandKey, stood: usize, why: NotAppended) {
-    let key = KeyText(key);
+    say(rt, "journal: hand ");
+    say_key(rt, key);
     match why {
         NotAppended::Changed => {
-            let _ = eprint!(rt; "journal: hand {key} is not written: another program has changed ");
+            say(rt, " is not written: another program has changed ");
             say_bytes(rt, to.path);
             say(rt, "\n");
         }
         // A write that fails puts nothing there.
         NotAppended::NotWritten(error) => {
-            let _ = eprint!(rt; "journal: hand {key} is not written: ");
+            say(rt, " is not written: ");
             fail(rt, to.path, error);
             cut_back(rt, to, stood, 0, error);
         }
         // A write that takes a part tells no reason.
         NotAppended::Short(put) => {
-            let _ = eprint!(rt; "journal: hand {key} is not written: ");
+            say(rt, " is not written: ");
             say_bytes(rt, to.path);
-            let _ = eprintln!(rt; ": no room for more than {put} bytes of it");
+            say(rt, ": no room for more than ");
+            say_number(rt, put as u64);
+            say(rt, " bytes of it\n");
             cut_back(rt, to, stood, put, Error::from_raw_os_error(0));
         }
         NotAppended::NotSynced(put, error) => {
-            let _ = eprint!(rt; "journal: hand {key} is not synced: ");
+            say(rt, " is not synced: ");
             fail(rt, to.path, error);
             cut_back(rt, to, stood, put, error);
         }

@@ -1,5 +1,5 @@
 // How far a long file is read, where standard error is a terminal: one line, written anew every 1,024 blocks, gone at the end.
-use crate::telling::say;
+use crate::telling::{say, say_number};
 use std::io::IsTerminal;
 
 const STRIDE: usize = 1024;
@@ -23,7 +23,10 @@ impl Bar {
         if let Some(next) = self.next
             && next <= block
         {
-            let _ = eprint!(rt; "\rjournal: block {block} of {blocks}");
+            say(rt, "\rjournal: block ");
+            say_number(rt, block as u64);
+            say(rt, " of ");
+            say_number(rt, blocks as u64);
             self.next = Some(block.saturating_add(STRIDE));
             self.is_shown = true;
         }

@@ -1,4 +1,5 @@
 // A hand as a script: the line of its key, then its lines, from its entries.
+use crate::telling::{say, say_number};
 use crate::texts;
 use journal::hand;
 use keys::HandKey;
@@ -10,6 +11,15 @@ type Text = Cursor<[u8; 4096]>;
 // From here on the text is written: an entry takes at most six places of its 4,096.
 const FULL: u64 = 4000;
 
+// By its place, which is sure to be there: `write_all` of a byte or two takes as long as the rest of an entry.
+fn put_byte(text: &mut Text, byte: u8) {
+    let at = text.position();
+    if let Some(place) = text.get_mut().get_mut(at as usize) {
+        *place = byte;
+    }
+    text.set_position(at.saturating_add(1));
+}
+
 // A letter begins a line, but for the first; a number follows a space.
 fn put_entry(text: &mut Text, i: usize, entry: u32) -> Result<()> {
     if entry % 65536 == 0 {
@@ -17,10 +27,11 @@ fn put_entry(text: &mut Text, i: usize, entry: u32) -> Result<()> {
         return write!(text, " {number}");
     }
     let letter = (entry % 256) as u8;
-    if i == 0 {
-        return text.write_all(&[letter]);
+    if i != 0 {
+        put_byte(text, b'\n');
     }
-    text.write_all(&[b'\n', letter])
+    put_byte(text, letter);
+    Ok(())
 }
 
 fn write_out(rt: &HostRuntime, text: &mut Text) -> Result<()> {
@@ -47,7 +58,9 @@ pub fn print_entries(rt: &HostRuntime, bytes: &[u8], entries: usize) -> Result<(
 pub fn print_key(rt: &HostRuntime, key: HandKey) -> Result<()> {
     let HandKey { code, year, hand } = key;
     if 65535 < hand {
-        let _ = eprintln!(rt; "journal: hand {hand} fits no k line: the line is left out");
+        say(rt, "journal: hand ");
+        say_number(rt, u64::from(hand));
+        say(rt, " fits no k line: the line is left out\n");
         return Ok(());
     }
     let mut line = Cursor::new([0u8; 80]);

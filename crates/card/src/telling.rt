@@ -2,7 +2,6 @@
 use crate::cards::NoCard;
 use crate::files::{EIO, EISDIR, ENOSPC, ESPIPE};
 use crate::statuses::Failure;
-use crate::texts::KeyText;
 use crate::walking::Unread;
 use crate::{files, texts};
 use keys::HandKey;
@@ -16,6 +15,20 @@ pub fn say(rt: &HostRuntime, text: &str) {
 // A path need not be text.
 pub fn say_bytes(rt: &HostRuntime, bytes: &[u8]) {
     let _ = rt.stderr().write_all(bytes);
+}
+
+// Each piece of a line goes out by a write of its own, so that what is said behind a piece that cannot be said is not lost with it.
+pub fn say_number(rt: &HostRuntime, n: u64) {
+    let _ = eprint!(rt; "{n}");
+}
+
+pub fn say_key(rt: &HostRuntime, key: HandKey) {
+    let HandKey { code, year, hand } = key;
+    say_number(rt, u64::from(code));
+    say(rt, " ");
+    say_number(rt, u64::from(year));
+    say(rt, " ");
+    say_number(rt, u64::from(hand));
 }
 
 // The end of a line: a colon, and why a call failed, in C's words: what the library prints, without the number that it puts behind them.
@@ -103,7 +116,9 @@ pub fn not_printed(rt: &HostRuntime, error: Error) -> Failure {
 fn bad_journal(rt: &HostRuntime, path: &[u8], block: usize) -> Failure {
     say(rt, "journal: 27 BadJournal: ");
     say_bytes(rt, path);
-    let _ = eprintln!(rt; " does not read at block {block}");
+    say(rt, " does not read at block ");
+    say_number(rt, block as u64);
+    say(rt, "\n");
     Failure::Refused
 }
 
@@ -125,16 +140,18 @@ pub fn no_card(rt: &HostRuntime, path: &[u8], why: NoCard) -> Failure {
 pub fn not_there(rt: &HostRuntime, path: &[u8], key: HandKey) -> Failure {
     say(rt, "journal: ");
     say_bytes(rt, path);
-    let key = KeyText(key);
-    let _ = eprintln!(rt; " has no hand {key}");
+    say(rt, " has no hand ");
+    say_key(rt, key);
+    say(rt, "\n");
     Failure::NotThere
 }
 
 pub fn stands_again(rt: &HostRuntime, key: HandKey, block: usize) {
-    let key = KeyText(key);
-    let _ = eprintln!(rt;
-        "journal: key {key} stands again at block {block}; the first hand is read"
-    );
+    say(rt, "journal: key ");
+    say_key(rt, key);
+    say(rt, " stands again at block ");
+    say_number(rt, block as u64);
+    say(rt, "; the first hand is read\n");
 }
 
 pub fn not_appended(rt: &HostRuntime, path: &[u8], block: usize) -> Failure {
@@ -165,7 +182,8 @@ pub fn script_too_long(rt: &HostRuntime) -> Failure {
 pub fn recorded_not_printed(rt: &HostRuntime, key: HandKey, error: Error) -> Failure {
     say(rt, "journal: cannot write to standard output");
     say_reason(rt, error);
-    let key = KeyText(key);
-    let _ = eprintln!(rt; "journal: hand {key} is recorded");
+    say(rt, "journal: hand ");
+    say_key(rt, key);
+    say(rt, " is recorded\n");
     Failure::Failed
 }

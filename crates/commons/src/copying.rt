@@ -15,6 +15,9 @@ pub fn copy<T: Copy>(to: &mut [T], at: usize, s: &[T], from: usize, n: usize)
 {
     let m = shared(to.len(), at, s.len(), from, n);
     if m != 0 {
-        to[at..at + m].copy_from_slice(&s[from..from + m]);
+        // By place and not by `copy_from_slice`: where places are laid back as they were, the compiler leaves this out.
+        for (k, x) in s[from..from + m].iter().enumerate() {
+            to[at + k] = *x;
+        }
     }
 }

@@ -32,7 +32,7 @@ fn put_entries(out: &mut [u8; 512], entries: &[u32])
 }
 
 // A block made from zeros: its head, its entries, its check.
-pub fn block_of(title: Title, index: u8, last: bool, entries: &[u32]) -> [u8; 512]
+fn block_of(title: Title, index: u8, last: bool, entries: &[u32]) -> [u8; 512]
     requires { length entries.now ≤ 120 }
     ensures { result ≡ block_of title index (bit last) entries.now }
 {
@@ -44,4 +44,14 @@ pub fn block_of(title: Title, index: u8, last: bool, entries: &[u32]) -> [u8; 51
     block[510] = check.sum;
     block[511] = check.run;
     block
+}
+
+// The same, laid over the caller's 512 bytes.
+pub fn fill_block(out: &mut [u8], title: Title, index: u8, last: bool, entries: &[u32])
+    requires out_len { length out.old ≡ 512 }
+    requires entries_len_bound { length entries.now ≤ 120 }
+    ensures { out.new ≡ block_of title index (bit last) entries.now }
+{
+    let block = block_of(title, index, last, entries);
+    commons::copying::copy(out, 0, &block, 0, 512);
 }

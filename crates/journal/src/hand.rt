@@ -60,7 +60,7 @@ fn put_blocks(out: &mut [u8], title: Title, tape: &[u32], n: usize)
         let to = at + 512;
         let index = i as u8;
         let last = i + 1 == n;
-        out[at..to].copy_from_slice(&fill::block_of(title, index, last, &tape[from..end]));
+        fill::fill_block(&mut out[at..to], title, index, last, &tape[from..end]);
     }
 }
 

@@ -62,7 +62,7 @@ fn fill_from(out: &mut [u8], title: Title, index: u8, rest: &[u32])
 {
     let used = rest.len().min(120);
     let last = rest.len() <= 120;
-    out[..512].copy_from_slice(&fill::block_of(title, index, last, &rest[..used]));
+    fill::fill_block(&mut out[..512], title, index, last, &rest[..used]);
 }
 
 // A block of a hand, from the entries that are left of it: as many as it holds.

@@ -1,8 +1,9 @@
 -- R15.3: the table that stands in a host's two lists, fs and ns. Definitions only.
-use Rattle.std.specs.Prelude.{ℕ, ◌+◌, Bool, cond, Option, Some, None, ◌&&◌, List, [], ◌∷◌, leb, ltb, length, Float}
+use Rattle.std.specs.Prelude.{ℕ, ◌+◌, Bool, cond, Result, Ok, Err, ◌&&◌, List, [], ◌∷◌, leb, ltb, length, Float}
 use Rattle.commons.specs.Tests.{all_of}
 use Rattle.seats.specs.Set.{of_bits}
 use Rattle.rounds.specs.declared.RoundData.{RoundData}
+use Rattle.rounds.specs.Steps.{no_data}
 use Rattle.rounds.specs.With.{data_of}
 use Rattle.table.specs.declared.GameState.{GameState}
 use Rattle.table.specs.declared.soundness.Frame.{Frame}
@@ -102,9 +103,9 @@ data_stands_in fs ns = room_for (length fs) (length ns) && data_fits ns
 unfoldable pub table_in : List Float → List ℕ → GameState
 table_in fs ns = cond (room_for (length fs) (length ns)) (table_at fs ns) no_table
 
--- R15.15: the round data, where it stands there
-unfoldable pub data_read_of : List Float → List ℕ → Option RoundData
-data_read_of fs ns = cond (data_stands_in fs ns) (Some (data_at fs ns)) None
+-- R15.15: the round data, where it stands there; else what its words are cut to, zeros where there is no room
+unfoldable pub data_read_of : List Float → List ℕ → Result RoundData RoundData
+data_read_of fs ns = cond (room_for (length fs) (length ns)) (cond (data_fits ns) (Ok (data_at fs ns)) (Err (data_at fs ns))) (Err no_data)
 
 -- R15.3: whether it is sound
 unfoldable pub sound_in : List ℕ → Bool

@@ -193,12 +193,17 @@ pub fn table(floats: &[f32], numbers: &[u32]) -> GameState
     GameState::none()
 }
 
-// The round data there, where some stands. Only the round's places are looked at.
-pub fn read_data(floats: &[f32], numbers: &[u32]) -> Option<RoundData>
+// The round data there, where some stands; where none does, its words cut to their ranges, and zeros where the lists are too short. Only the round's places are
+// looked at.
+pub fn read_data(floats: &[f32], numbers: &[u32]) -> Result<RoundData, RoundData>
     ensures { result ≡ data_read_of floats.now numbers.now }
 {
-    if is_room(floats.len(), numbers.len()) & data_fits(numbers) {
-        return Some(data_at(floats, numbers));
+    if is_room(floats.len(), numbers.len()) {
+        let data = data_at(floats, numbers);
+        if data_fits(numbers) {
+            return Ok(data);
+        }
+        return Err(data);
     }
-    None
+    Err(RoundData::none())
 }

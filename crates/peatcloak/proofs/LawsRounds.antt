@@ -1,6 +1,6 @@
 -- A call on the round data in the lists: what its step comes to where it can be made, and 19 with nothing written where it cannot. Assumes nothing.
-use Rattle.std.specs.Prelude.{Option, Some, None, Ok, Err}
-use Rattle.std.proofs.lemmas.Option.{none-some}
+use Rattle.std.specs.Prelude.{Result, Ok, Err}
+use Rattle.std.specs.Result.{is_ok}
 use Rattle.refusals.specs.declared.Refusal.{Refusal}
 use Rattle.refusals.specs.Number.{number_of}
 use Rattle.refusals.specs.Rows.{verdict_number}
@@ -18,7 +18,7 @@ use Rattle.commons.specs.Filled.{copied}
 use Rattle.commons.proofs.Bools.{and_both}
 use Rattle.rounds.specs.declared.RoundData.{RoundData}
 use Rattle.rounds.specs.declared.RoundStep.{RoundStep}
-use Rattle.rounds.specs.Steps.{passed_of}
+use Rattle.rounds.specs.Steps.{passed_of, no_data}
 use Rattle.layout.specs.Laid.{data_floats, data_numbers, floats_data_laid, numbers_data_laid}
 use Rattle.layout.specs.Standing.{room_for, data_fits, data_stands_in, data_at, data_read_of}
 use Rattle.layout.proofs.LawsRead.{room_of}
@@ -95,75 +95,75 @@ module _ (fs : List Float) (ns : List ℕ) where
         subst (λ (v : RoundStep). Stood v 19 fs ns) (λ i. cond (sym h i) s nothing_there) (refl, (refl, (refl, λ z. absurd (omega (arith, z)))))
 
   -- ---- round data that was read: where some stands there it is that at its places
-  module _ (there : Option RoundData) (e : there ≡ data_read_of fs ns) where
-    abbrev Stands : Type 0
-    Stands = data_stands_in fs ns ≡ true
+  module _ (there : Result RoundData RoundData) (e : there ≡ data_read_of fs ns) where
+    -- by the tests of room and of the words
+    abbrev read_by : Bool → Bool → Result RoundData RoundData
+    read_by r f = cond r (cond f (Ok (data_at fs ns)) (Err (data_at fs ns))) (Err no_data)
 
-    that_is : (d : RoundData) → there ≡ Some d → Stands × (d ≡ data_at fs ns)
+    is-there : is_ok there ≡ data_stands_in fs ns
     unfolding data_read_of
-    that_is d f = by (data_stands_in fs ns) refl
+    is-there = ap is_ok e ∙ by (room_for (length fs) (length ns)) (data_fits ns)
       where
-        by : (b : Bool) → data_stands_in fs ns ≡ b → Stands × (d ≡ data_at fs ns)
-        by true q =
-            let is : Some d ≡ Some (data_at fs ns) = sym f ∙ e ∙ λ i. cond (q i) (Some (data_at fs ns)) None in
-            let same : d ≡ data_at fs ns = cc in (q, same)
-        by false q = absurd (none-some d (sym (sym f ∙ e ∙ λ i. cond (q i) (Some (data_at fs ns)) None)))
+        by : (r f : Bool) → is_ok (read_by r f) ≡ r && f
+        by true true = refl
+        by true false = refl
+        by false f = refl
 
-    none_is : there ≡ None → data_stands_in fs ns ≡ false
+    stands : (d : RoundData) → there ≡ Ok d → data_stands_in fs ns ≡ true
+    stands d f = sym is-there ∙ ap is_ok f
+
+    pub that_is : (d : RoundData) → there ≡ Ok d → d ≡ data_at fs ns
     unfolding data_read_of
-    none_is f = by (data_stands_in fs ns) refl
-      where
-        by : (b : Bool) → data_stands_in fs ns ≡ b → data_stands_in fs ns ≡ false
-        by true q = absurd (none-some (data_at fs ns) (sym f ∙ e ∙ λ i. cond (q i) (Some (data_at fs ns)) None))
-        by false q = q
+    that_is d f =
+        let both = and_both (room_for (length fs) (length ns)) (data_fits ns) (stands d f) in
+        let is : Ok d ≡ Ok (data_at fs ns) = sym f ∙ e ∙ λ i. read_by (both.0 i) (both.1 i) in
+        cc
 
     pub data_stepped : (f : RoundData → RoundStep) (d : RoundData) (u : RoundStep) (r : ℕ) (fs' : List Float) (ns' : List ℕ)
         → StepFits (f (data_at fs ns))
-        → there ≡ Some d
+        → there ≡ Ok d
         → u ≡ f d
         → Stepped u r fs' ns'
         → Stood (on_data fs ns (f (data_at fs ns))) r fs' ns'
     data_stepped f d u r fs' ns' fits h g =
-        let at = that_is d h in
-        can-step (data_stands_in fs ns) (f (data_at fs ns)) u r fs' ns' (λ t. (and_both (room_for (length fs) (length ns)) (data_fits ns) t).0) fits at.0 (g ∙ ap f at.1)
+        can-step (data_stands_in fs ns) (f (data_at fs ns)) u r fs' ns' (λ t. (and_both (room_for (length fs) (length ns)) (data_fits ns) t).0) fits (stands d h) (g ∙ ap f (that_is d h))
 
-    pub data_nothing : (s : RoundStep) → there ≡ None → Stood (on_data fs ns s) 19 fs ns
-    data_nothing s h = cannot_step (data_stands_in fs ns) s (none_is h)
+    pub data_nothing : (s : RoundStep) → is_ok there ≡ false → Stood (on_data fs ns s) 19 fs ns
+    data_nothing s h = cannot_step (data_stands_in fs ns) s (sym is-there ∙ h)
 
-  -- ---- what is told of it
-  module _ (amounts : List Float) (answers : List ℕ) where
-    abbrev room : Bool
-    room = leb 1 (length amounts) && leb 3 (length answers)
+    -- ---- what is told of it
+    module _ (amounts : List Float) (answers : List ℕ) where
+      abbrev room : Bool
+      room = leb 1 (length amounts) && leb 3 (length answers)
 
-    abbrev asked : Bool
-    asked = is_asked fs ns (length amounts) (length answers)
+      abbrev asked : Bool
+      asked = is_asked fs ns (length amounts) (length answers)
 
-    abbrev pub Told : ℕ → List Float → List ℕ → Type 0
-    Told r amounts' answers' = (r ≡ asked_number asked) × ((amounts' ≡ amounts_told asked (data_at fs ns) amounts) × (answers' ≡ answers_told asked (data_at fs ns) answers))
+      abbrev pub Told : ℕ → List Float → List ℕ → Type 0
+      Told r amounts' answers' = (r ≡ asked_number asked) × ((amounts' ≡ amounts_told asked (data_at fs ns) amounts) × (answers' ≡ answers_told asked (data_at fs ns) answers))
 
-    untold : false ≡ asked → Told 19 amounts answers
-    untold a = ((λ j. asked_number (a j)), ((λ j. amounts_told (a j) (data_at fs ns) amounts), (λ j. answers_told (a j) (data_at fs ns) answers)))
+      is-asked : (t : Bool) → room && is_ok there ≡ t → t ≡ asked
+      is-asked t h = sym h ∙ λ i. room && is-there i
 
-    pub told_none : room ≡ false → Told 19 amounts answers
-    told_none h = untold (λ j. sym h j && data_stands_in fs ns)
-
-    module _ (there : Option RoundData) (e : there ≡ data_read_of fs ns) (h : room ≡ true) where
       pub told-all : (d : RoundData) (xs : List Float) (bs : List ℕ) (amounts' : List Float) (answers' : List ℕ)
-          → there ≡ Some d
+          → room ≡ true
+          → there ≡ Ok d
           → xs ≡ amounts_asked d
           → bs ≡ answers_asked d
           → amounts' ≡ copied nan 0 amounts 0 xs 1
           → answers' ≡ copied 0 0 answers 0 bs 3
           → Told 0 amounts' answers'
-      told-all d xs bs amounts' answers' q f g k l =
-          let at = that_is there e d q in
-          let a : true ≡ asked = λ j. sym h j && sym at.0 j in (
+      told-all d xs bs amounts' answers' h q f g k l =
+          let a = is-asked true (λ i. h i && ap is_ok q i) in
+          let at = that_is d q in (
             (λ j. asked_number (a j)),
             (
-              k ∙ (λ j. copied nan 0 amounts 0 ((f ∙ ap amounts_asked at.1) j) 1) ∙ (λ j. amounts_told (a j) (data_at fs ns) amounts),
-              l ∙ (λ j. copied 0 0 answers 0 ((g ∙ ap answers_asked at.1) j) 3) ∙ (λ j. answers_told (a j) (data_at fs ns) answers),
+              k ∙ (λ j. copied nan 0 amounts 0 ((f ∙ ap amounts_asked at) j) 1) ∙ (λ j. amounts_told (a j) (data_at fs ns) amounts),
+              l ∙ (λ j. copied 0 0 answers 0 ((g ∙ ap answers_asked at) j) 3) ∙ (λ j. answers_told (a j) (data_at fs ns) answers),
             ),
           )
 
-      pub told_nothing : there ≡ None → Told 19 amounts answers
-      told_nothing q = untold (λ j. sym h j && sym (none_is there e q) j)
+      pub told_none : room && is_ok there ≡ false → Told 19 amounts answers
+      told_none h =
+          let a = is-asked false h in
+          ((λ j. asked_number (a j)), ((λ j. amounts_told (a j) (data_at fs ns) amounts), (λ j. answers_told (a j) (data_at fs ns) answers)))

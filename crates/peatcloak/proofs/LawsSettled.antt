@@ -1,12 +1,12 @@
 -- A settlement into the lists. The rewards that are told as 32-bit words are the settlement's own, since each fits. Assumes nothing.
 use Prim.Native.Nat.{ℕ, ◌≤◌}
 use native.Mathlib.Omega.{arith}
-use mathlib.Core.Path.{◌≡◌, sym, subst, ap, ◌∙◌}
+use mathlib.Core.Path.{◌≡◌, refl, sym, subst, ap, ◌∙◌}
 use mathlib.Core.Logic.{◌≢◌, ⊎_elim}
 use mathlib.Core.Bool.{Bool, true, false, cond, ◌&&◌}
 use mathlib.Core.List.{List}
-use borrow.Author.Tests.{eq-eqb, ne_eqb, leb-true}
-use lib.Dec.{leb}
+use borrow.Author.Tests.{eq-eqb, ne_eqb, leb-true, eqb-true}
+use lib.Dec.{leb, eqb}
 use lib.IntN.{ℤ, pos}
 use lib.ListN.{length}
 use lib.Ieee.{Float}
@@ -29,7 +29,7 @@ use Rattle.layout.specs.Standing.{stands_in, table_at, table_in}
 use Rattle.layout.proofs.LawsOutcome.{After}
 use Rattle.layout.proofs.LawsRead.{table-there, stands-room}
 use Rattle.peatcloak.specs.Calls.{judged, nothing_there, Stands as CallStands}
-use Rattle.peatcloak.specs.Settling.{ranks_at, settled_at, paid_out, settle_on, rewards_told, rewards_after, in_words}
+use Rattle.peatcloak.specs.Settling.{ranks_at, settled_at, paid_out, settle_on, rewards_told, rewards_after, in_words, words_after}
 use Rattle.peatcloak.proofs.LawsCalls.{Answered, answered, same_call, nothing-done}
 
 -- ---- the rewards as words
@@ -54,9 +54,34 @@ module _ (fs : List Float) (ns : List ℕ) (ok : Bool) (e : ok ≡ stands_in fs 
   abbrev told : List ℤ
   told = (settled_at fs ns ranks).rewards
 
+  -- where the number is 0 the settlement was accepted
+  accepted : o.number ≡ 0 → (settled_at fs ns ranks).answer ≡ Ok tt
+  accepted n = by ((leb 16 (length ranks) && leb 16 (length rs)) && stands_in fs ns) refl
+    where
+      by : (b : Bool) → (leb 16 (length ranks) && leb 16 (length rs)) && stands_in fs ns ≡ b → (settled_at fs ns ranks).answer ≡ Ok tt
+      by true q = stands-at-zero (settled_at fs ns ranks).answer ((λ i. (cond (sym q i) (paid_out (settled_at fs ns ranks)) (nothing_there fs ns)).number) ∙ n)
+      by false q =
+          let none : (nothing_there fs ns).number ≡ 0 = (λ i. (cond (sym q i) (paid_out (settled_at fs ns ranks)) (nothing_there fs ns)).number) ∙ n in
+          absurd (omega (arith, none))
+
+  -- the rewards that are told are the words that are laid
+  pub as_words : rewards_after o told rs ≡ words_after o told rs
+  as_words = by (eqb o.number 0) refl
+    where
+      by : (b : Bool) → eqb o.number 0 ≡ b → rewards_after o told rs ≡ words_after o told rs
+      by true e =
+          (λ i. cond (e i) (rewards_told told rs) rs)
+          ∙ sym (rewards-words (table_at fs ns) (ranks_at ranks) (accepted (eqb-true o.number 0 e)) rs)
+          ∙ (λ i. cond (sym e i) (in_words told rs) rs)
+      by false e = (λ i. cond (e i) (rewards_told told rs) rs) ∙ (λ i. cond (sym e i) (in_words told rs) rs)
+
   abbrev pub Settles : ℕ → List Float → List ℕ → List ℤ → Type 0
   Settles r fs' ns' rs' =
       (r ≡ o.number) × ((fs' ≡ floats_after (length ns) o fs) × ((ns' ≡ numbers_after (length fs) o ns) × ((rs' ≡ rewards_after o told rs) × CallStands r fs' ns' o)))
+
+  -- the words, of lists that are as they must be
+  pub words-are : {r : ℕ} {fs' : List Float} {ns' : List ℕ} {rs' : List ℤ} → Settles r fs' ns' rs' → rs' ≡ words_after o told rs
+  words-are h = h.1.1.1.0 ∙ as_words
 
   with-rewards : (r : ℕ) (fs' : List Float) (ns' : List ℕ) (rs' : List ℤ) → Answered fs ns o r fs' ns' → rs' ≡ rewards_after o told rs → Settles r fs' ns' rs'
   with-rewards r fs' ns' rs' h g = (h.0, (h.1.0, (h.1.1.0, (g, h.1.1.1))))

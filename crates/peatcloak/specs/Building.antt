@@ -1,6 +1,7 @@
 -- R15.10: the builder that a host's lists tell, and what a build into them comes to. Definitions only.
 use Rattle.std.specs.Prelude.{ℕ, Option, None, Bool, cond, ◌&&◌, ◌||◌, not, List, [], ◌∷◌, leb, ltb, length, Float}
 use Rattle.std.specs.Bool.{then_some}
+use Rattle.std.specs.Result.{result_ok}
 use Rattle.commons.specs.Tests.{all_of}
 use Rattle.amounts.specs.Amounts.{of_slice}
 use Rattle.rounds.specs.declared.RoundData.{RoundData}
@@ -24,7 +25,7 @@ abbrev pub board_given : Bool → List ℕ → Option Board
 board_given given l = then_some given (record { list = cards_to (length l) l; len = length l })
 
 abbrev pub data_given : Bool → List Float → List ℕ → Option RoundData
-data_given given fs ns = cond given (data_read_of fs ns) None
+data_given given fs ns = cond given (result_ok (data_read_of fs ns)) None
 
 -- fs and ns are the table's lists, gs is `given`
 abbrev pub builder_at : List Float → List ℕ → List Float → List Float → List ℕ → List Float → List ℕ → GameStateBuilder

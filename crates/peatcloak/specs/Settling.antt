@@ -33,3 +33,7 @@ rewards_after o told rs = cond (eqb o.number 0) (rewards_told told rs) rs
 -- as 32-bit words: a number that fits stays as it is
 abbrev pub in_words : List ℤ → List ℤ → List ℤ
 in_words told rs = filled 16 rs (λ i. to_z w32 (of_z w32 (get_or told i (pos 0))))
+
+-- the words that are laid where it is accepted
+abbrev pub words_after : Outcome → List ℤ → List ℤ → List ℤ
+words_after o told rs = cond (eqb o.number 0) (in_words told rs) rs

@@ -56,7 +56,7 @@ fn data_of(given: bool, floats: &[f32], numbers: &[u32]) -> Option<RoundData>
     ensures { result ≡ data_given given floats.now numbers.now }
 {
     if given {
-        return standing::read_data(floats, numbers);
+        return standing::read_data(floats, numbers).ok();
     }
     None
 }

@@ -87,8 +87,8 @@ pub extern "C" fn peatcloak_round_advance_action(floats: &mut [f32], numbers: &m
     ensures stands { DataStands result floats.new numbers.new (advance_on floats.old numbers.old) }
 {
     match standing::read_data(floats, numbers) {
-        Some(d) => lay_round(floats, numbers, d.advance_action()),
-        None => 19,
+        Ok(d) => lay_round(floats, numbers, d.advance_action()),
+        Err(_) => 19,
     }
 }
 
@@ -107,8 +107,8 @@ pub extern "C" fn peatcloak_round_do_bet(
 {
     let forced = !(is_forced == 0);
     match standing::read_data(floats, numbers) {
-        Some(d) => lay_round(floats, numbers, d.do_bet(extra_amount, forced)),
-        None => 19,
+        Ok(d) => lay_round(floats, numbers, d.do_bet(extra_amount, forced)),
+        Err(_) => 19,
     }
 }
 
@@ -144,7 +144,7 @@ pub extern "C" fn peatcloak_round_queries(
     ensures answers_after { answers.new ≡ answers_told (is_asked floats.now numbers.now (length amounts.old) (length answers.old)) (data_at floats.now numbers.now) answers.old }
 {
     if (1 <= amounts.len()) & (3 <= answers.len()) {
-        if let Some(d) = standing::read_data(floats, numbers) {
+        if let Ok(d) = standing::read_data(floats, numbers) {
             let told = amounts_of(d);
             let said = answers_of(d);
             commons::copying::copy(amounts, 0, &told, 0, 1);

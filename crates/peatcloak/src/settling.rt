@@ -2,7 +2,7 @@
 ghost use Rattle.std.specs.Prelude.{◌≡◌, ◌≤◌, length};
 ghost use Rattle.layout.specs.Outcome.{floats_after, numbers_after};
 ghost use Rattle.peatcloak.specs.Calls.{Stands};
-ghost use Rattle.peatcloak.specs.Settling.{ranks_at, settle_on, settled_at, rewards_told, rewards_after};
+ghost use Rattle.peatcloak.specs.Settling.{ranks_at, settle_on, settled_at, rewards_told, rewards_after, words_after};
 
 use crate::outcomes;
 use layout::standing;
@@ -34,6 +34,7 @@ pub extern "C" fn peatcloak_settle(
     ensures numbers_after { numbers.new ≡ numbers_after (length floats.old) (settle_on floats.old numbers.old ranks.now (length rewards.old)) numbers.old }
     ensures rewards_after { rewards.new ≡ rewards_after (settle_on floats.old numbers.old ranks.now (length rewards.old)) (settled_at floats.old numbers.old ranks.now).rewards rewards.old }
     ensures stands { Stands result floats.new numbers.new (settle_on floats.old numbers.old ranks.now (length rewards.old)) }
+    ensures words { rewards.new ≡ words_after (settle_on floats.old numbers.old ranks.now (length rewards.old)) (settled_at floats.old numbers.old ranks.now).rewards rewards.old }
 {
     let room = (16 <= ranks.len()) & (16 <= rewards.len());
     if room & standing::stands(floats.len(), numbers) {

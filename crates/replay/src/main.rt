@@ -40,6 +40,15 @@ use settle_lines::Settlements;
 use step_lines::Steps;
 use words::ZEROS;
 
+// These two lists keep rooms for a case; each is asked in a function of its own, so that the rooms of one do not stand beside those of the other.
+fn replay_scripts(rt: &HostRuntime) {
+    lists::replay(rt, "scripts", &mut Scripts::new());
+}
+
+fn replay_journals(rt: &HostRuntime) {
+    lists::replay(rt, "journals", &mut Journals::new());
+}
+
 fn main(rt: HostRuntime) {
     lists::replay(&rt, "seats", &mut Seats);
     lists::replay(&rt, "floats", &mut Floats);
@@ -47,6 +56,6 @@ fn main(rt: HostRuntime) {
     lists::replay(&rt, "builds", &mut Builds { table: ZEROS });
     lists::replay(&rt, "steps", &mut Steps { table: ZEROS });
     lists::replay(&rt, "settlements", &mut Settlements { table: ZEROS });
-    lists::replay(&rt, "scripts", &mut Scripts::new());
-    lists::replay(&rt, "journals", &mut Journals::new());
+    replay_scripts(&rt);
+    replay_journals(&rt);
 }

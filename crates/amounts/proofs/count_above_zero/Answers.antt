@@ -7,7 +7,7 @@ use lib.Ieee.{lt, of_bits}
 use Rattle.std.proofs.lemmas.List.{length-take}
 use Rattle.floats.specs.Helpers.{zerof}
 use Rattle.amounts.specs.Amounts.{above_of}
-use Rattle.amounts.proofs.Folds.{taken, fold_end, above-next, above-fits}
+use Rattle.amounts.proofs.Folds.{taken, taken-end, above-next, above-fits}
 use Rattle.amounts.proofs.count_above_zero.Goals as goal
 use Rattle.amounts.proofs.count_above_zero.Goals.{then-x, else-x}
 
@@ -33,4 +33,4 @@ loop-x-preserved c =
     ]
 
 pub returns : goal.returns
-returns c = fold_end c.args.list c.min.result above_of _ _ _ c.loop-x.invariant c.loop-x.auto.x-index-end c.loop-x-test.false c.min.ensures (omega (arith, c.well_formed))
+returns c = taken-end c.args.list c.min.result above_of _ _ _ c.loop-x.invariant c.loop-x.auto.x-index-end c.loop-x-test.false c.min.ensures (omega (arith, c.well_formed))

@@ -3,7 +3,7 @@ use native.Mathlib.Omega.{arith}
 use mathlib.Core.Path.{refl, ap, ◌∙◌}
 use lib.Ieee.{binary32, add, of_bits}
 use Rattle.amounts.specs.Amounts.{sum_of}
-use Rattle.amounts.proofs.Folds.{taken, fold_end, sum-next}
+use Rattle.amounts.proofs.Folds.{taken, taken-end, sum-next}
 use Rattle.amounts.proofs.sum.Goals as goal
 
 pub loop-x-init : goal.loop-x-init
@@ -17,4 +17,4 @@ loop-x-preserved c =
     ∙ sum-next _ _ _ c.loop-x.invariant
 
 pub returns : goal.returns
-returns c = fold_end c.args.list c.min.result sum_of _ _ _ c.loop-x.invariant c.loop-x.auto.x-index-end c.loop-x-test.false c.min.ensures (omega (arith, c.well_formed))
+returns c = taken-end c.args.list c.min.result sum_of _ _ _ c.loop-x.invariant c.loop-x.auto.x-index-end c.loop-x-test.false c.min.ensures (omega (arith, c.well_formed))

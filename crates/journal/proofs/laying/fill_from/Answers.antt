@@ -1,24 +1,20 @@
 -- `journal::laying::fill_from`: the block in front of what stands behind it. Assumes nothing.
-use mathlib.Core.Path.{sym, ap, ◌∙◌}
-use lib.ListN.{length}
+use mathlib.Core.Path.{sym}
 use lib.Seq.{length-take-le}
 use Rattle.journal.specs.Lay.{block_laid}
-use Rattle.journal.proofs.LawsBack.{block-long}
 use Rattle.journal.proofs.LawsLay.{front_long, front-most, front}
 use Rattle.journal.proofs.laying.fill_from.Goals as goal
 
-pub slice_bounds-block_of-end : goal.slice_bounds-block_of-end
-slice_bounds-block_of-end c = front_long c.args.rest.now _ c.min-used.ensures
+pub slice_bounds-fill_block-end-2 : goal.slice_bounds-fill_block-end-2
+slice_bounds-fill_block-end-2 c = sym (length-take-le 512 c.args.out.now c.requires)
 
-pub block_of-requires : goal.block_of-requires
-block_of-requires c = front-most c.args.rest.now _ c.min-used.ensures
+pub slice_bounds-fill_block-end-3 : goal.slice_bounds-fill_block-end-3
+slice_bounds-fill_block-end-3 c = front_long c.args.rest.now _ c.min-used.ensures
 
-pub copy_from_slice-requires : goal.copy_from_slice-requires
-copy_from_slice-requires c =
-    length-take-le 512 c.args.out.now c.requires
-    ∙ sym (ap length c.block_of.ensures ∙ block-long _ _ _ _ (front-most c.args.rest.now _ c.min-used.ensures))
+pub fill_block-requires : goal.fill_block-requires
+fill_block-requires c = record { out_len = length-take-le 512 c.args.out.now c.requires; entries_len_bound = front-most c.args.rest.now _ c.min-used.ensures }
 
 pub returns : goal.returns
 unfolding block_laid
 returns c =
-    rw (c.copy_from_slice.ensures.after, c.block_of.ensures, front _ _ c.min-used.ensures)
+    rw (c.fill_block.ensures, front _ _ c.min-used.ensures)
