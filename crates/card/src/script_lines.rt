@@ -11,7 +11,7 @@ type Text = Cursor<[u8; 4096]>;
 // From here on the text is written: an entry takes at most six places of its 4,096.
 const FULL: u64 = 4000;
 
-// By its place, which is sure to be there: `write_all` of a byte or two takes as long as the rest of an entry.
+// By its place, which is sure to be there: with `write_all` a letter takes some 50 instructions more, of 160 for an entry.
 fn put_byte(text: &mut Text, byte: u8) {
     let at = text.position();
     if let Some(place) = text.get_mut().get_mut(at as usize) {
